@@ -77,6 +77,7 @@ use Rattle.dia_peer.specs.World.{AreBytes, IsPastOpen}
 use Rattle.dia_peer.proofs.Sets.{IsIn, to_in, of_in, in_cases}
 use Rattle.dia_peer.proofs.SpelledMessages.{one_message, has_length}
 use Rattle.dia_peer.proofs.Advertised.{Held, quiet_front, quiet_answer, from_advertised, into_advertised, vendor_code, plain_code, three_cases, code_same, byte_sum}
+use Rattle.dia_peer.proofs.SentValues.{Says, cer_says, cea_says}
 use Rattle.dia_peer.proofs.Moves.{MaySend, asks, accepts_it, refuses_it, watches, is_there, leaves, lets_go}
 
 -- ---- the code follows the flags
@@ -203,8 +204,10 @@ module _ (c : PlainConfig) (numbers : AllByRecursion (λ (a : App). a.id < 42949
 
   module _ (role : Role) (state : State) where
     cer_was_sent : (m : Sent) (ids : Ids) (vs : List PlainAvp) (apps : List Pair) → MaySend role c state m → MessageWithZeros m.header m.avps b → IsGood b 257 true false ids vs
-        → AreAdvertised vs apps → (role ≡ Initiator) × ArePairs apps
-    cer_was_sent m ids vs apps (asks i r e) z g are = (r, pairs_of (origin c ++ capabilities c) vs apps (quiet_front c) (sent_avps m 257 true false ids vs z g ∙ ap (λ (x : Sent). x.avps) e) are)
+        → AreAdvertised vs apps → (role ≡ Initiator) × ArePairs apps × Says c b
+    cer_was_sent m ids vs apps (asks i r e) z g are =
+        let same = sent_avps m 257 true false ids vs z g ∙ ap (λ (x : Sent). x.avps) e in
+        (r, pairs_of (origin c ++ capabilities c) vs apps (quiet_front c) same are, cer_says c i g.header vs b g.message same)
     cer_was_sent m ids vs apps (accepts_it i r p e) z g are = absurd (subst (λ (x : Sent). HasR x.header.flags) e (sent_request m 257 false ids vs z g) refl)
     cer_was_sent m ids vs apps (refuses_it i r e) z g are = absurd (subst (λ (x : Sent). HasR x.header.flags) e (sent_request m 257 false ids vs z g) refl)
     cer_was_sent m ids vs apps (watches i e) z g are = absurd (omega (arith, sent_code m 257 true false ids vs z g ∙ ap (λ (x : Sent). x.header.code) e))
@@ -214,10 +217,11 @@ module _ (c : PlainConfig) (numbers : AllByRecursion (λ (a : App). a.id < 42949
 
     cea_was_sent : (m : Sent) (ids : Ids) (vs : List PlainAvp) (apps : List Pair) → MaySend role c state m → MessageWithZeros m.header m.avps b → IsGood b 257 false false ids vs
         → HasResult vs 2001 → AreAdvertised vs apps
-        → (role ≡ Responder) × IsPastOpen state × ArePairs apps
+        → (role ≡ Responder) × IsPastOpen state × ArePairs apps × Says c b
     cea_was_sent m ids vs apps (asks i r e) z g has are = absurd (sent_answer m 257 false ids vs z g (subst (λ (x : Sent). HasR x.header.flags) (sym e) (λ n. absurd cc)))
     cea_was_sent m ids vs apps (accepts_it i r p e) z g has are =
-        (r, p, pairs_of (avp32 268 2001 ∷ (origin c ++ capabilities c)) vs apps (quiet_answer c 2001) (sent_avps m 257 false false ids vs z g ∙ ap (λ (x : Sent). x.avps) e) are)
+        let same = sent_avps m 257 false false ids vs z g ∙ ap (λ (x : Sent). x.avps) e in
+        (r, p, pairs_of (avp32 268 2001 ∷ (origin c ++ capabilities c)) vs apps (quiet_answer c 2001) same are, cea_says c i 2001 g.header vs b g.message same)
     cea_was_sent m ids vs apps (refuses_it i r e) z g has are =
         absurd (omega (
           arith,
@@ -229,9 +233,9 @@ module _ (c : PlainConfig) (numbers : AllByRecursion (λ (a : App). a.id < 42949
     cea_was_sent m ids vs apps (lets_go i e) z g has are = absurd (omega (arith, sent_code m 257 false false ids vs z g ∙ ap (λ (x : Sent). x.header.code) e))
 
     -- a CER that comes was sent by an initiator, and has the pairs of its configuration
-    pub received_cer : (ids : Ids) (same : List ℕ) (apps : List Pair) → IsSentBy role c state b → IsReceived b (Cer ids same apps) → (role ≡ Initiator) × ArePairs apps
+    pub received_cer : (ids : Ids) (same : List ℕ) (apps : List Pair) → IsSentBy role c state b → IsReceived b (Cer ids same apps) → (role ≡ Initiator) × ArePairs apps × Says c b
     received_cer ids same apps s (vs, g, is, are) = cer_was_sent s.m ids vs apps s.may s.message g are
 
     -- a CEA of success that comes was sent by a responder that has opened, and has the pairs of its configuration
-    pub received_cea : (ids : Ids) (apps : List Pair) → IsSentBy role c state b → IsReceived b (Cea ids 2001 apps) → (role ≡ Responder) × IsPastOpen state × ArePairs apps
+    pub received_cea : (ids : Ids) (apps : List Pair) → IsSentBy role c state b → IsReceived b (Cea ids 2001 apps) → (role ≡ Responder) × IsPastOpen state × ArePairs apps × Says c b
     received_cea ids apps s (vs, g, has, are) = cea_was_sent s.m ids vs apps s.may s.message g has are

@@ -11,10 +11,12 @@ use Rattle.dia_peer.specs.declared.config.Role.TheVariants.{Initiator, Responder
 use Rattle.dia_peer.specs.declared.event.State.{State}
 use Rattle.dia_peer.specs.declared.event.State.TheVariants.{Open}
 use Rattle.dia_peer.specs.Core.{PlainConfig, IsConfig, PlainCore, PlainTaken, Pair, pair_of, common_by, common_of, relays}
-use Rattle.dia_peer.specs.Messages.{Received, Cer, Cea, cea, IsGood, IsReceived}
-use Rattle.dia_peer.specs.Table.{Happening, Starts, Gets, Ticks, Stops, Breaks, Deed, Sends, Closes, Outcome, nothing, same_bytes, repeated, only_responder, happens_in, happens, without_next}
+use Rattle.dia_peer.specs.Messages.{Received, Unreadable, Foreign, Invalid, Cer, Dwr, Dpr, Cea, Refusal, Dwa, Dpa, WatchdogError, Other, cea, IsGood, IsReceived}
+use Rattle.dia_peer.specs.Table.{Happening, Starts, Gets, Ticks, Stops, Breaks, Deed, Sends, Closes, Outcome, nothing, same_bytes, same_ids, repeated, only_responder, happens_in, happens, without_next}
 use Rattle.dia_peer.specs.Life.{heard, noticed, hears, lives}
-use Rattle.dia_peer.specs.World.{End, World, Event, Start, Tick, Stop, Lose, TakeIds, Hear, Deliver, AreBytes, AreSpelled, Goes, HappensAt, Happens, Run, start, AreShared, IsCommon, HoldsShared, HoldSame, IsPastOpen, RepeatsAnswer, Agrees}
+use Rattle.dia_peer.specs.Values.{awaits_cea, awaits_cer, introduces, leaves, keeps}
+use Rattle.dia_peer.proofs.SentValues.{Says, values_are}
+use Rattle.dia_peer.specs.World.{End, World, Event, Start, Tick, Stop, Lose, TakeIds, Hear, Deliver, AreBytes, AreSpelled, Goes, GoesBy, KnowEachOther, HappensAt, Happens, Run, start, AreShared, IsCommon, HoldsShared, HoldSame, IsPastOpen, RepeatsAnswer, Agrees}
 use Rattle.dia_peer.proofs.Sets.{IsIn, to_in, of_in, in_cases, in_left, in_right, eq_self}
 use Rattle.dia_peer.proofs.Commons.{relays_same, common_is, common_turns}
 use Rattle.dia_peer.proofs.SpelledMessages.{one_writing}
@@ -54,9 +56,13 @@ sent_now role c state (Sends s ∷ deeds) messages (b, rest, e, are, message, mo
 moved : (role : Role) (c : PlainConfig) (manner : Manner) (old : End) (h : Happening) → IsEnd role c manner old → Moves old.core h (lives old.core h)
 moved role c manner old h e = lived old.core h (subst (λ r. Suits r old.core.state) (sym e.role_is) e.suits)
 
+-- the end after an event, with what it keeps of the other
+abbrev made : End → Happening → List (List ℕ) → Option (List ℕ) → Option (List ℕ) → End
+made old h messages met left = record { core = record (lives old.core h).core { met = met; left = left }; sent = old.sent ++ messages }
+
 end_goes : (role : Role) (c : PlainConfig) (manner : Manner) (old : End) (h : Happening) (messages : List (List ℕ)) → IsEnd role c manner old → AreSpelled (lives old.core h).deeds messages
-    → IsEnd role c manner (record { core = (lives old.core h).core; sent = old.sent ++ messages })
-end_goes role c manner old h messages e is =
+    → (met left : Option (List ℕ)) → IsEnd role c manner (made old h messages met left)
+end_goes role c manner old h messages e is met left =
     let m = moved role c manner old h e in
     let may : AllMay role c (lives old.core h).core.state (lives old.core h).deeds =
     subst (λ r. AllMay r c (lives old.core h).core.state (lives old.core h).deeds) e.role_is
@@ -93,7 +99,12 @@ record Went (old other new : End) : Type 0 where
   messages : List (List ℕ)
   from : IsFrom other h
   spelled : AreSpelled (lives old.core h).deeds messages
-  is : new ≡ record { core = (lives old.core h).core; sent = old.sent ++ messages }
+  met : Option (List ℕ)
+  left : Option (List ℕ)
+  is : new ≡ made old h messages met left
+  -- what it keeps of the other: the message by which that introduces itself, and in an open connection what it had
+  meets : (what : Received) → h ≡ Gets what → old.core.manner.values ≡ true → introduces old.core what ≡ true → (bytes : List ℕ) × IsIn other.sent bytes × IsReceived bytes what × (met ≡ Some bytes)
+  had : old.core.state ≡ Open → met ≡ (lives old.core h).core.met
 
 -- identifiers of an end are taken, or it hears of the other
 abbrev beside : End → Ids → Bool → End
@@ -103,15 +114,51 @@ abbrev IsBeside : End → End → Type 0
 IsBeside old new = (next : Ids) × (suspect : Bool) × (new ≡ beside old next suspect)
 
 by_itself : (old other new : End) (h : Happening) → what_of h ≡ None → Goes old h new → Went old other new
-by_itself old other new h none g = record { h = h; messages = g.0; from = λ what e. absurd (none-some what (sym none ∙ ap what_of e)); spelled = g.1; is = g.2 }
+by_itself old other new h none g = record { h = h; messages = g.0; from = λ what e. absurd (none-some what (sym none ∙ ap what_of e)); spelled = g.1; met = (lives old.core h).core.met; left = (lives old.core h).core.left; is = g.2; meets = λ what e. absurd (none-some what (sym none ∙ ap what_of e)); had = λ e. refl }
 
-delivered : (old other new : End) (k : ℕ) (bytes : List ℕ) (what : Received) → slice_get other.sent k ≡ Some bytes → IsReceived bytes what → Goes old (Gets what) new → Went old other new
+-- in an open connection the other end doesn't introduce itself
+known : (c : PlainCore) (what : Received) → c.state ≡ Open → introduces c what ≡ false
+known c Unreadable e = refl
+known c Foreign e = refl
+known c Invalid e = refl
+known c (Cer ids bytes apps) e = ap awaits_cer e
+known c (Dwr ids) e = refl
+known c (Dpr ids) e = refl
+known c (Cea ids result apps) e = ap (λ (s : State). awaits_cea s && same_ids ids c.last_cer) e
+known c (Refusal ids) e = ap (λ (s : State). awaits_cea s && same_ids ids c.last_cer) e
+known c (Dwa ids) e = refl
+known c (Dpa ids) e = refl
+known c (WatchdogError ids) e = refl
+known c Other e = refl
+
+abbrev if_kept : Bool → Bool → List ℕ → Option (List ℕ) → Option (List ℕ)
+if_kept values by bytes old = cond values (cond by (Some bytes) old) old
+
+not_kept : (values by : Bool) (bytes : List ℕ) (old : Option (List ℕ)) → by ≡ false → if_kept values by bytes old ≡ old
+not_kept true by bytes old e = ap (λ (t : Bool). cond t (Some bytes) old) e
+not_kept false by bytes old e = refl
+
+keeps_both : (values meets leaves : Bool) (bytes : List ℕ) (new : PlainCore)
+    → cond values (record new { met = cond meets (Some bytes) new.met; left = cond leaves (Some bytes) new.left }) new ≡ record new { met = if_kept values meets bytes new.met; left = if_kept values leaves bytes new.left }
+keeps_both true meets leaves bytes new = refl
+keeps_both false meets leaves bytes new = refl
+
+delivered : (old other new : End) (k : ℕ) (bytes : List ℕ) (what : Received) → slice_get other.sent k ≡ Some bytes → IsReceived bytes what → GoesBy (keeps old.core bytes what) old (Gets what) new → Went old other new
 delivered old other new k bytes what at received g = record {
   h = Gets what;
   messages = g.0;
   from = λ w e. (bytes, at_in other.sent k bytes at, subst (IsReceived bytes) (same_Some what w (ap what_of e)) received);
   spelled = g.1;
-  is = g.2;
+  met = if_kept old.core.manner.values (introduces old.core what) bytes (lives old.core (Gets what)).core.met;
+  left = if_kept old.core.manner.values (leaves old.core what) bytes (lives old.core (Gets what)).core.left;
+  is = g.2 ∙ ap (λ (c : PlainCore). record { core = c; sent = old.sent ++ g.0 }) (keeps_both old.core.manner.values (introduces old.core what) (leaves old.core what) bytes (lives old.core (Gets what)).core);
+  meets = λ w e values by. (
+      bytes,
+      at_in other.sent k bytes at,
+      subst (IsReceived bytes) (same_Some what w (ap what_of e)) received,
+      (λ i. if_kept (values i) ((ap (introduces old.core) (same_Some what w (ap what_of e)) ∙ by) i) bytes (lives old.core (Gets what)).core.met),
+    );
+  had = λ e. not_kept old.core.manner.values (introduces old.core what) bytes (lives old.core (Gets what)).core.met (known old.core what e);
 }
 
 -- an event at an end, or a call beside the table
@@ -153,18 +200,21 @@ record Took (b : PlainConfig) (e : End) : Type 0 where
   avps : List PlainAvp
   good : IsGood taken.bytes 257 true false ids avps
 
+-- an open end keeps what the other said of itself
+abbrev Knows : PlainConfig → Manner → PlainCore → Type 0
+Knows other manner core = core.state ≡ Open → manner.values ≡ true → (bytes : List ℕ) × (core.met ≡ Some bytes) × Says other bytes
+
 -- what holds after any events
 record Holds (a : PlainConfig) (m : Manner) (b : PlainConfig) (n : Manner) (w : World) : Type 0 where
   i : IsEnd Initiator a m w.initiator
   r : IsEnd Responder b n w.responder
   i_open : w.initiator.core.state ≡ Open → IsShared m a b w.initiator.core.common × (0 < length w.initiator.core.common) × IsPastOpen w.responder.core.state
   r_open : w.responder.core.state ≡ Open → IsShared n a b w.responder.core.common × (0 < length w.responder.core.common) × Took b w.responder
+  i_knows : Knows b m w.initiator.core
+  r_knows : Knows a n w.responder.core
 
 roles_differ : (r : Role) → r ≡ Initiator → r ≡ Responder → ⊥
 roles_differ r e f = let g : Initiator ≡ Responder = sym e ∙ f in absurd cc
-
-abbrev made : End → Happening → List (List ℕ) → End
-made old h messages = record { core = (lives old.core h).core; sent = old.sent ++ messages }
 
 module _ (a : PlainConfig) (m : Manner) (b : PlainConfig) (n : Manner) (an : Numbers a) (bn : Numbers b) where
   begins : Holds a m b n (start a m b n)
@@ -173,6 +223,8 @@ module _ (a : PlainConfig) (m : Manner) (b : PlainConfig) (n : Manner) (an : Num
     r = record { config = refl; role_is = refl; manner_is = refl; suits = tt; sent = λ bytes k. absurd k };
     i_open = λ e. absurd cc;
     r_open = λ e. absurd cc;
+    i_knows = λ e. absurd cc;
+    r_knows = λ e. absurd cc;
   }
 
   -- the initiator opens by a CEA of a responder that has opened
@@ -180,8 +232,8 @@ module _ (a : PlainConfig) (m : Manner) (b : PlainConfig) (n : Manner) (an : Num
       → IsShared m a b (lives w.initiator.core h).core.common × (0 < length (lives w.initiator.core h).core.common) × IsPastOpen w.responder.core.state
   initiator_opens w h hold from (stays e common taken) =
       subst (λ (x : List Pair). IsShared m a b x × (0 < length x) × IsPastOpen w.responder.core.state) (sym common) (hold.i_open e)
-  initiator_opens w h hold from (by_request ids bytes apps role is common some taken deeds) = absurd (roles_differ w.initiator.core.role hold.i.role_is role)
-  initiator_opens w h hold from (by_answer ids apps role is common some) =
+  initiator_opens w h hold from (by_request ids bytes apps role is met common some taken deeds) = absurd (roles_differ w.initiator.core.role hold.i.role_is role)
+  initiator_opens w h hold from (by_answer ids apps role is met common some) =
       let (bytes, at, received) = from (Cea ids 2001 apps) is in
       let says = received_cea b bn bytes Responder w.responder.core.state ids apps (hold.r.sent bytes at) received in
       let config : common_of w.initiator.core.manner w.initiator.core.config apps ≡ common_of m a apps = λ i. common_of (hold.i.manner_is i) (hold.i.config i) apps in
@@ -189,9 +241,9 @@ module _ (a : PlainConfig) (m : Manner) (b : PlainConfig) (n : Manner) (an : Num
 
   -- the responder opens by a CER of the initiator, and answers it
   responder_opens : (w : World) (h : Happening) (messages : List (List ℕ)) → Holds a m b n w → IsFrom w.initiator h → AreSpelled (lives w.responder.core h).deeds messages
-      → Opened w.responder.core h (lives w.responder.core h)
-      → IsShared n a b (lives w.responder.core h).core.common × (0 < length (lives w.responder.core h).core.common) × Took b (made w.responder h messages)
-  responder_opens w h messages hold from spelled (stays e common taken) =
+      → (met left : Option (List ℕ)) → Opened w.responder.core h (lives w.responder.core h)
+      → IsShared n a b (lives w.responder.core h).core.common × (0 < length (lives w.responder.core h).core.common) × Took b (made w.responder h messages met left)
+  responder_opens w h messages hold from spelled met left (stays e common taken) =
       let old = hold.r_open e in let t = old.2 in (
         subst (IsShared n a b) (sym common) old.0,
         subst (λ (x : List Pair). 0 < length x) (sym common) old.1,
@@ -207,8 +259,8 @@ module _ (a : PlainConfig) (m : Manner) (b : PlainConfig) (n : Manner) (an : Num
           good = t.good;
         },
       )
-  responder_opens w h messages hold from spelled (by_answer ids apps role is common some) = absurd (roles_differ w.responder.core.role role hold.r.role_is)
-  responder_opens w h messages hold from spelled (by_request ids same apps role is common some taken deeds) =
+  responder_opens w h messages hold from spelled met left (by_answer ids apps role is known common some) = absurd (roles_differ w.responder.core.role role hold.r.role_is)
+  responder_opens w h messages hold from spelled met left (by_request ids same apps role is known common some taken deeds) =
       let (bytes, at, received) = from (Cer ids same apps) is in
       let says = received_cer a an bytes Initiator w.initiator.core.state ids same apps (hold.i.sent bytes at) received in
       let config : common_of w.responder.core.manner w.responder.core.config apps ≡ common_of n b apps = λ i. common_of (hold.r.manner_is i) (hold.r.config i) apps in
@@ -228,22 +280,44 @@ module _ (a : PlainConfig) (m : Manner) (b : PlainConfig) (n : Manner) (an : Num
         },
       )
 
-  initiator_goes : (w : World) (h : Happening) (messages : List (List ℕ)) → Holds a m b n w → IsFrom w.responder h → AreSpelled (lives w.initiator.core h).deeds messages
-      → Holds a m b n (record { initiator = made w.initiator h messages; responder = w.responder })
-  initiator_goes w h messages hold from spelled = record {
-    i = end_goes Initiator a m w.initiator h messages hold.i spelled;
+  initiator_knows : (w : World) (new : End) → Holds a m b n w → (g : Went w.initiator w.responder new) → Opened w.initiator.core g.h (lives w.initiator.core g.h) → m.values ≡ true
+      → (bytes : List ℕ) × (g.met ≡ Some bytes) × Says b bytes
+  initiator_knows w new hold g (stays e common taken) values =
+      let old = hold.i_knows e values in (old.0, g.had e ∙ (moved Initiator a m w.initiator g.h hold.i).met ∙ old.1, old.2)
+  initiator_knows w new hold g (by_request ids bytes apps role is met common some taken deeds) values = absurd (roles_differ w.initiator.core.role hold.i.role_is role)
+  initiator_knows w new hold g (by_answer ids apps role is met common some) values =
+      let (bytes, at, received, is_met) = g.meets (Cea ids 2001 apps) is (ap (λ (k : Manner). k.values) hold.i.manner_is ∙ values) met in
+      (bytes, is_met, (received_cea b bn bytes Responder w.responder.core.state ids apps (hold.r.sent bytes at) received).3)
+
+  responder_knows : (w : World) (new : End) → Holds a m b n w → (g : Went w.responder w.initiator new) → Opened w.responder.core g.h (lives w.responder.core g.h) → n.values ≡ true
+      → (bytes : List ℕ) × (g.met ≡ Some bytes) × Says a bytes
+  responder_knows w new hold g (stays e common taken) values =
+      let old = hold.r_knows e values in (old.0, g.had e ∙ (moved Responder b n w.responder g.h hold.r).met ∙ old.1, old.2)
+  responder_knows w new hold g (by_answer ids apps role is met common some) values = absurd (roles_differ w.responder.core.role role hold.r.role_is)
+  responder_knows w new hold g (by_request ids same apps role is met common some taken deeds) values =
+      let (bytes, at, received, is_met) = g.meets (Cer ids same apps) is (ap (λ (k : Manner). k.values) hold.r.manner_is ∙ values) met in
+      (bytes, is_met, (received_cer a an bytes Initiator w.initiator.core.state ids same apps (hold.i.sent bytes at) received).2)
+
+  initiator_goes : (w : World) (new : End) → Holds a m b n w → (g : Went w.initiator w.responder new)
+      → Holds a m b n (record { initiator = made w.initiator g.h g.messages g.met g.left; responder = w.responder })
+  initiator_goes w new hold g = record {
+    i = end_goes Initiator a m w.initiator g.h g.messages hold.i g.spelled g.met g.left;
     r = hold.r;
-    i_open = λ e. initiator_opens w h hold from ((moved Initiator a m w.initiator h hold.i).opened e);
+    i_open = λ e. initiator_opens w g.h hold g.from ((moved Initiator a m w.initiator g.h hold.i).opened e);
     r_open = hold.r_open;
+    i_knows = λ e values. initiator_knows w new hold g ((moved Initiator a m w.initiator g.h hold.i).opened e) values;
+    r_knows = hold.r_knows;
   }
 
-  responder_goes : (w : World) (h : Happening) (messages : List (List ℕ)) → Holds a m b n w → IsFrom w.initiator h → AreSpelled (lives w.responder.core h).deeds messages
-      → Holds a m b n (record { initiator = w.initiator; responder = made w.responder h messages })
-  responder_goes w h messages hold from spelled = record {
+  responder_goes : (w : World) (new : End) → Holds a m b n w → (g : Went w.responder w.initiator new)
+      → Holds a m b n (record { initiator = w.initiator; responder = made w.responder g.h g.messages g.met g.left })
+  responder_goes w new hold g = record {
     i = hold.i;
-    r = end_goes Responder b n w.responder h messages hold.r spelled;
-    i_open = λ e. (let o = hold.i_open e in (o.0, o.1, (moved Responder b n w.responder h hold.r).past o.2));
-    r_open = λ e. responder_opens w h messages hold from spelled ((moved Responder b n w.responder h hold.r).opened e);
+    r = end_goes Responder b n w.responder g.h g.messages hold.r g.spelled g.met g.left;
+    i_open = λ e. (let o = hold.i_open e in (o.0, o.1, (moved Responder b n w.responder g.h hold.r).past o.2));
+    r_open = λ e. responder_opens w g.h g.messages hold g.from g.spelled g.met g.left ((moved Responder b n w.responder g.h hold.r).opened e);
+    i_knows = hold.i_knows;
+    r_knows = λ e values. responder_knows w new hold g ((moved Responder b n w.responder g.h hold.r).opened e) values;
   }
 
   -- beside the table an end has sent the same, in the same state
@@ -264,7 +338,7 @@ module _ (a : PlainConfig) (m : Manner) (b : PlainConfig) (n : Manner) (an : Num
   }
 
   initiator_beside : (w : World) (next : Ids) (suspect : Bool) → Holds a m b n w → Holds a m b n (record { initiator = beside w.initiator next suspect; responder = w.responder })
-  initiator_beside w next suspect hold = record { i = end_beside Initiator a m w.initiator next suspect hold.i; r = hold.r; i_open = hold.i_open; r_open = hold.r_open }
+  initiator_beside w next suspect hold = record { i = end_beside Initiator a m w.initiator next suspect hold.i; r = hold.r; i_open = hold.i_open; r_open = hold.r_open; i_knows = hold.i_knows; r_knows = hold.r_knows }
 
   responder_beside : (w : World) (next : Ids) (suspect : Bool) → Holds a m b n w → Holds a m b n (record { initiator = w.initiator; responder = beside w.responder next suspect })
   responder_beside w next suspect hold = record {
@@ -272,19 +346,21 @@ module _ (a : PlainConfig) (m : Manner) (b : PlainConfig) (n : Manner) (an : Num
     r = end_beside Responder b n w.responder next suspect hold.r;
     i_open = hold.i_open;
     r_open = λ e. (let o = hold.r_open e in (o.0, o.1, took_beside w.responder next suspect o.2));
+    i_knows = hold.i_knows;
+    r_knows = hold.r_knows;
   }
 
   initiator_at : (w : World) (new : End) → Holds a m b n w → Went w.initiator w.responder new ⊎ IsBeside w.initiator new
       → Holds a m b n (record { initiator = new; responder = w.responder })
   initiator_at w new hold (inl g) =
-      subst (λ (x : End). Holds a m b n (record { initiator = x; responder = w.responder })) (sym g.is) (initiator_goes w g.h g.messages hold g.from g.spelled)
+      subst (λ (x : End). Holds a m b n (record { initiator = x; responder = w.responder })) (sym g.is) (initiator_goes w new hold g)
   initiator_at w new hold (inr (next, suspect, is)) =
       subst (λ (x : End). Holds a m b n (record { initiator = x; responder = w.responder })) (sym is) (initiator_beside w next suspect hold)
 
   responder_at : (w : World) (new : End) → Holds a m b n w → Went w.responder w.initiator new ⊎ IsBeside w.responder new
       → Holds a m b n (record { initiator = w.initiator; responder = new })
   responder_at w new hold (inl g) =
-      subst (λ (x : End). Holds a m b n (record { initiator = w.initiator; responder = x })) (sym g.is) (responder_goes w g.h g.messages hold g.from g.spelled)
+      subst (λ (x : End). Holds a m b n (record { initiator = w.initiator; responder = x })) (sym g.is) (responder_goes w new hold g)
   responder_at w new hold (inr (next, suspect, is)) =
       subst (λ (x : End). Holds a m b n (record { initiator = w.initiator; responder = x })) (sym is) (responder_beside w next suspect hold)
 
@@ -330,6 +406,12 @@ again_lives : (c : PlainCore) (taken : PlainTaken) (ids : Ids) (apps : List Pair
 again_lives c taken ids apps open_now role is =
     ap (λ (o : Outcome). cond c.manner.life (hears c (Cer ids taken.bytes apps) o) o) (again_is c taken ids apps open_now role is) ∙ again_by c.manner.life c taken ids apps
 
+-- a message that says nothing of the other end
+keeps_none : (c : PlainCore) (bytes : List ℕ) (what : Received) (new : PlainCore) → introduces c what ≡ false → leaves c what ≡ false → keeps c bytes what new ≡ new
+keeps_none c bytes what new meets goes =
+    keeps_both c.manner.values (introduces c what) (leaves c what) bytes new
+    ∙ (λ i. record new { met = not_kept c.manner.values (introduces c what) bytes new.met meets i; left = not_kept c.manner.values (leaves c what) bytes new.left goes i })
+
 repeats : (b : PlainConfig) (n : Manner) (e : End) → IsEnd Responder b n e → e.core.state ≡ Open → Took b e → RepeatsAnswer e
 repeats b n e is_end open_now t = record {
   taken = t.taken;
@@ -340,7 +422,7 @@ repeats b n e is_end open_now t = record {
 }
   where
     once : (what : Received) (new : End) → IsReceived t.taken.bytes what → (messages : List (List ℕ)) → AreSpelled (lives e.core (Gets what)).deeds messages
-        → new ≡ record { core = (lives e.core (Gets what)).core; sent = e.sent ++ messages } → new ≡ record { core = noticed e.core; sent = e.sent ++ t.answer ∷ [] }
+        → new ≡ record { core = keeps e.core t.taken.bytes what (lives e.core (Gets what)).core; sent = e.sent ++ messages } → new ≡ record { core = noticed e.core; sent = e.sent ++ t.answer ∷ [] }
     once what new received messages spelled is =
         let (ids, apps, is_cer) = is_request t.taken.bytes t.ids t.avps what t.good received in
         let out : lives e.core (Gets what) ≡ record { core = noticed e.core; deeds = Sends (cea e.core.config t.taken.ids 2001) ∷ [] } =
@@ -349,7 +431,9 @@ repeats b n e is_end open_now t = record {
         let same : bytes ≡ t.answer = one_writing (cea b t.taken.ids 2001).header (cea b t.taken.ids 2001).avps bytes t.answer are_bytes t.are_bytes
         (subst (λ (c : PlainConfig). MessageWithZeros (cea c t.taken.ids 2001).header (cea c t.taken.ids 2001).avps bytes) is_end.config message) t.message in
         let all : messages ≡ t.answer ∷ [] = is_sent ∙ (λ i. same i ∷ none i) in
-        is ∙ (λ i. record { core = (out i).core; sent = e.sent ++ all i })
+        let keeps_it : keeps e.core t.taken.bytes what (lives e.core (Gets what)).core ≡ (lives e.core (Gets what)).core =
+        keeps_none e.core t.taken.bytes what (lives e.core (Gets what)).core (known e.core what open_now) (ap (leaves e.core) is_cer) in
+        is ∙ (λ i. record { core = (keeps_it ∙ ap (λ (o : Outcome). o.core) out) i; sent = e.sent ++ all i })
 
 -- ---- the law
 
@@ -373,3 +457,10 @@ agrees a b m n events w ac bc run =
       follows = λ e. (h.i_open e).2;
       repeats = λ e. repeats b n w.responder h.r e (h.r_open e).2;
     }
+
+pub their_values : (a b : PlainConfig) (m n : Manner) (events : List (Role × Event)) (w : World) → IsConfig a → IsConfig b → Run (start a m b n) events w → KnowEachOther a m b n w
+their_values a b m n events w ac bc run =
+    let h = runs a m b n ac.apps.numbers bc.apps.numbers (start a m b n) events w (begins a m b n ac.apps.numbers bc.apps.numbers) run in (
+      (λ e values. (let k = h.i_knows e values in values_are b w.initiator.core k.0 k.1 k.2)),
+      (λ e values. (let k = h.r_knows e values in values_are a w.responder.core k.0 k.1 k.2)),
+    )

@@ -24,3 +24,5 @@ pub mod OneResult
 pub mod OneStep
 pub mod Watchdogs
 pub mod ByManner
+pub mod SentValues
+pub mod FirstData

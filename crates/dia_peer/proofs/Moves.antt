@@ -39,6 +39,7 @@ use Rattle.dia_peer.specs.Table.{
   happens,
 }
 use Rattle.dia_peer.specs.Life.{is_open, suspects, hears, lives, ends_wait}
+use Rattle.dia_peer.specs.Values.{awaits_cea, awaits_cer, introduces}
 use Rattle.dia_peer.specs.World.{IsPastOpen}
 use Rattle.dia_peer.proofs.Sets.{eq_same}
 
@@ -75,14 +76,15 @@ AllMay role c state (Closes reason ∷ deeds) = AllMay role c state deeds
 -- how a core that is open afterwards came to be so
 pub data Opened (c : PlainCore) (h : Happening) (o : Outcome) : Type 0 where
   stays : c.state ≡ Open → o.core.common ≡ c.common → o.core.taken ≡ c.taken → Opened c h o
-  by_answer : (ids : Ids) (apps : List Pair) → c.role ≡ Initiator → h ≡ Gets (Cea ids 2001 apps) → common_of c.manner c.config apps ≡ Some o.core.common → 0 < length o.core.common → Opened c h o
-  by_request : (ids : Ids) (bytes : List ℕ) (apps : List Pair) → c.role ≡ Responder → h ≡ Gets (Cer ids bytes apps) → common_of c.manner c.config apps ≡ Some o.core.common → 0 < length o.core.common
+  by_answer : (ids : Ids) (apps : List Pair) → c.role ≡ Initiator → h ≡ Gets (Cea ids 2001 apps) → introduces c (Cea ids 2001 apps) ≡ true → common_of c.manner c.config apps ≡ Some o.core.common → 0 < length o.core.common → Opened c h o
+  by_request : (ids : Ids) (bytes : List ℕ) (apps : List Pair) → c.role ≡ Responder → h ≡ Gets (Cer ids bytes apps) → introduces c (Cer ids bytes apps) ≡ true → common_of c.manner c.config apps ≡ Some o.core.common → 0 < length o.core.common
       → o.core.taken ≡ Some (record { bytes = bytes; ids = ids }) → o.deeds ≡ Sends (cea c.config ids 2001) ∷ [] → Opened c h o
 
 pub record Moves (c : PlainCore) (h : Happening) (o : Outcome) : Type 0 where
   pub config : o.core.config ≡ c.config
   pub role : o.core.role ≡ c.role
   pub manner : o.core.manner ≡ c.manner
+  pub met : o.core.met ≡ c.met
   pub suits : Suits c.role o.core.state
   pub past : IsPastOpen c.state → IsPastOpen o.core.state
   pub sends : AllMay c.role c.config o.core.state o.deeds
@@ -130,26 +132,26 @@ idle_not h = not_past Idle h (λ e. absurd cc) (λ e. absurd cc) (λ e. absurd c
 -- ---- single outcomes
 
 m_nothing : (c : PlainCore) (h : Happening) → Suits c.role c.state → Moves c h (nothing c)
-m_nothing c h s = record { config = refl; role = refl; manner = refl; suits = s; past = λ p. p; sends = tt; opened = λ e. stays e refl refl }
+m_nothing c h s = record { config = refl; role = refl; manner = refl; met = refl; suits = s; past = λ p. p; sends = tt; opened = λ e. stays e refl refl }
 
 m_closes : (c : PlainCore) (h : Happening) (reason : Why) → Moves c h (closes c [] reason)
-m_closes c h reason = record { config = refl; role = refl; manner = refl; suits = suits_closed c.role; past = λ p. is_closed; sends = tt; opened = λ e. absurd cc }
+m_closes c h reason = record { config = refl; role = refl; manner = refl; met = refl; suits = suits_closed c.role; past = λ p. is_closed; sends = tt; opened = λ e. absurd cc }
 
 m_breaks : (c : PlainCore) (h : Happening) → Moves c h (record { core = closed c; deeds = [] })
-m_breaks c h = record { config = refl; role = refl; manner = refl; suits = suits_closed c.role; past = λ p. is_closed; sends = tt; opened = λ e. absurd cc }
+m_breaks c h = record { config = refl; role = refl; manner = refl; met = refl; suits = suits_closed c.role; past = λ p. is_closed; sends = tt; opened = λ e. absurd cc }
 
 m_answers : (c : PlainCore) (h : Happening) (m : Sent) (reason : Why) → MaySend c.role c.config Closed m → Moves c h (closes c (Sends m ∷ []) reason)
-m_answers c h m reason may = record { config = refl; role = refl; manner = refl; suits = suits_closed c.role; past = λ p. is_closed; sends = (may, tt); opened = λ e. absurd cc }
+m_answers c h m reason may = record { config = refl; role = refl; manner = refl; met = refl; suits = suits_closed c.role; past = λ p. is_closed; sends = (may, tt); opened = λ e. absurd cc }
 
 m_says : (c : PlainCore) (h : Happening) (m : Sent) → Suits c.role c.state → MaySend c.role c.config c.state m → Moves c h (record { core = c; deeds = Sends m ∷ [] })
-m_says c h m s may = record { config = refl; role = refl; manner = refl; suits = s; past = λ p. p; sends = (may, tt); opened = λ e. stays e refl refl }
+m_says c h m s may = record { config = refl; role = refl; manner = refl; met = refl; suits = s; past = λ p. p; sends = (may, tt); opened = λ e. stays e refl refl }
 
 m_starts : (r : Role) (c : PlainCore) (h : Happening) → c.role ≡ r → c.state ≡ Idle → Moves c h (starts c r)
 m_starts Initiator c h e s =
     record {
       config = refl;
       role = refl;
-      manner = refl;
+      manner = refl; met = refl;
       suits = subst (λ r. Suits r WaitCea) (sym e) tt;
       past = λ p. absurd (idle_not (subst IsPastOpen s p));
       sends = (asks c.next e refl, tt);
@@ -157,32 +159,32 @@ m_starts Initiator c h e s =
           λ o. absurd cc;
     }
 m_starts Responder c h e s =
-    record { config = refl; role = refl; manner = refl; suits = subst (λ r. Suits r WaitCer) (sym e) tt; past = λ p. absurd (idle_not (subst IsPastOpen s p)); sends = tt; opened = λ o. absurd cc }
+    record { config = refl; role = refl; manner = refl; met = refl; suits = subst (λ r. Suits r WaitCer) (sym e) tt; past = λ p. absurd (idle_not (subst IsPastOpen s p)); sends = tt; opened = λ o. absurd cc }
 
-m_opens : (c : PlainCore) (h : Happening) (ids : Ids) (apps : List Pair) (found : Option (List Pair)) → c.role ≡ Initiator → h ≡ Gets (Cea ids 2001 apps) → common_of c.manner c.config apps ≡ found
+m_opens : (c : PlainCore) (h : Happening) (ids : Ids) (apps : List Pair) (found : Option (List Pair)) → c.role ≡ Initiator → h ≡ Gets (Cea ids 2001 apps) → introduces c (Cea ids 2001 apps) ≡ true → common_of c.manner c.config apps ≡ found
     → Moves c h (opens c found)
-m_opens c h ids apps None r e is = m_closes c h why.Invalid
-m_opens c h ids apps (Some []) r e is = m_closes c h why.NoCommon
-m_opens c h ids apps (Some (p ∷ ps)) r e is = record { config = refl; role = refl; manner = refl; suits = suits_open c.role; past = λ x. past_open; sends = tt; opened = λ o. by_answer ids apps r e is (omega arith) }
+m_opens c h ids apps None r e met is = m_closes c h why.Invalid
+m_opens c h ids apps (Some []) r e met is = m_closes c h why.NoCommon
+m_opens c h ids apps (Some (p ∷ ps)) r e met is = record { config = refl; role = refl; manner = refl; met = refl; suits = suits_open c.role; past = λ x. past_open; sends = tt; opened = λ o. by_answer ids apps r e met is (omega arith) }
 
-m_answered : (c : PlainCore) (h : Happening) (ids : Ids) (result : ℕ) (apps : List Pair) → c.role ≡ Initiator → h ≡ Gets (Cea ids result apps) → Moves c h (answered c result apps)
-m_answered c h ids result apps r e =
+m_answered : (c : PlainCore) (h : Happening) (ids : Ids) (result : ℕ) (apps : List Pair) → c.role ≡ Initiator → h ≡ Gets (Cea ids result apps) → introduces c (Cea ids result apps) ≡ true → Moves c h (answered c result apps)
+m_answered c h ids result apps r e met =
     cond_both (result == 2001) (opens c (common_of c.manner c.config apps)) (cond (result == 5010) (closes c [] why.NoCommon) (closes c [] why.Refused)) (Moves c h)
-    (λ t. m_opens c h ids apps (common_of c.manner c.config apps) r (e ∙ ap (λ n. Gets (Cea ids n apps)) (eq_same result 2001 t)) refl)
+    (λ t. m_opens c h ids apps (common_of c.manner c.config apps) r (e ∙ ap (λ n. Gets (Cea ids n apps)) (eq_same result 2001 t)) met refl)
     (λ f. cond_both (result == 5010) (closes c [] why.NoCommon) (closes c [] why.Refused) (Moves c h) (λ t. m_closes c h why.NoCommon) (λ g. m_closes c h why.Refused))
 
-m_accepts : (c : PlainCore) (h : Happening) (ids : Ids) (bytes : List ℕ) (apps : List Pair) (found : Option (List Pair)) → c.role ≡ Responder → h ≡ Gets (Cer ids bytes apps)
+m_accepts : (c : PlainCore) (h : Happening) (ids : Ids) (bytes : List ℕ) (apps : List Pair) (found : Option (List Pair)) → c.role ≡ Responder → h ≡ Gets (Cer ids bytes apps) → introduces c (Cer ids bytes apps) ≡ true
     → common_of c.manner c.config apps ≡ found → Moves c h (accepts c ids bytes found)
-m_accepts c h ids bytes apps None r e is = m_closes c h why.Invalid
-m_accepts c h ids bytes apps (Some []) r e is = m_answers c h (cea c.config ids 5010) why.NoCommon (refuses_it ids r refl)
-m_accepts c h ids bytes apps (Some (p ∷ ps)) r e is = record {
+m_accepts c h ids bytes apps None r e met is = m_closes c h why.Invalid
+m_accepts c h ids bytes apps (Some []) r e met is = m_answers c h (cea c.config ids 5010) why.NoCommon (refuses_it ids r refl)
+m_accepts c h ids bytes apps (Some (p ∷ ps)) r e met is = record {
   config = refl;
   role = refl;
-  manner = refl;
+  manner = refl; met = refl;
   suits = suits_open c.role;
   past = λ x. past_open;
   sends = (accepts_it ids r past_open refl, tt);
-  opened = λ o. by_request ids bytes apps r e is (omega arith) refl refl;
+  opened = λ o. by_request ids bytes apps r e met is (omega arith) refl refl;
 }
 
 m_repeated : (c : PlainCore) (h : Happening) (bytes : List ℕ) (taken : Option PlainTaken) → c.role ≡ Responder → c.state ≡ Open → Suits c.role c.state → Moves c h (repeated c bytes taken)
@@ -198,11 +200,11 @@ m_only Responder c h bytes r e s = m_repeated c h bytes c.taken r e s
 -- ---- what comes
 
 m_waits : (c : PlainCore) (h : Happening) → Suits c.role c.state → Moves c h (record { core = record c { waits = false }; deeds = [] })
-m_waits c h s = record { config = refl; role = refl; manner = refl; suits = s; past = λ p. p; sends = tt; opened = λ e. stays e refl refl }
+m_waits c h s = record { config = refl; role = refl; manner = refl; met = refl; suits = s; past = λ p. p; sends = tt; opened = λ e. stays e refl refl }
 
 m_watch : (c : PlainCore) (h : Happening) → Suits c.role c.state
     → Moves c h (record { core = record c { next = after c.next; last_dwr = Some c.next; waits = true }; deeds = Sends (dwr c.config c.next) ∷ [] })
-m_watch c h s = record { config = refl; role = refl; manner = refl; suits = s; past = λ p. p; sends = (watches c.next refl, tt); opened = λ e. stays e refl refl }
+m_watch c h s = record { config = refl; role = refl; manner = refl; met = refl; suits = s; past = λ p. p; sends = (watches c.next refl, tt); opened = λ e. stays e refl refl }
 
 m_ticks : (c : PlainCore) (h : Happening) → Suits c.role c.state → Moves c h (ticks_open c)
 m_ticks c h s =
@@ -210,7 +212,7 @@ m_ticks c h s =
     (λ t. m_closes c h why.Watchdog) (λ f. m_watch c h s)
 
 m_stops : (c : PlainCore) (h : Happening) (cause : Cause) → Moves c h (stops_open c cause)
-m_stops c h cause = record { config = refl; role = refl; manner = refl; suits = suits_end c.role; past = λ p. is_end; sends = (leaves c.next cause refl, tt); opened = λ e. absurd cc }
+m_stops c h cause = record { config = refl; role = refl; manner = refl; met = refl; suits = suits_end c.role; past = λ p. is_end; sends = (leaves c.next cause refl, tt); opened = λ e. absurd cc }
 
 moves_in : (s : State) (c : PlainCore) (h : Happening) → c.state ≡ s → Suits c.role c.state → Moves c h (happens_in s c h)
 moves_in Closed c h e s = m_nothing c h s
@@ -222,13 +224,13 @@ moves_in state c (Gets Unreadable) e s = m_closes c _ why.Invalid
 moves_in state c (Gets Invalid) e s = m_closes c _ why.Invalid
 moves_in WaitCea c (Gets (Cea ids result apps)) e s =
     cond_both (same_ids ids c.last_cer) (answered c result apps) (nothing c) (Moves c (Gets (Cea ids result apps)))
-    (λ t. m_answered c (Gets (Cea ids result apps)) ids result apps (is_initiator c.role (subst (Suits c.role) e s)) refl) (λ f. m_nothing c _ s)
+    (λ t. m_answered c (Gets (Cea ids result apps)) ids result apps (is_initiator c.role (subst (Suits c.role) e s)) refl (λ i. awaits_cea (e i) && t i)) (λ f. m_nothing c _ s)
 moves_in WaitCea c (Gets (Refusal ids)) e s =
     cond_both (same_ids ids c.last_cer) (closes c [] why.Refused) (nothing c) (Moves c (Gets (Refusal ids))) (λ t. m_closes c _ why.Refused) (λ f. m_nothing c _ s)
 moves_in WaitCea c Ticks e s = m_closes c _ why.Timeout
 moves_in WaitCea c (Stops cause) e s = m_closes c _ why.Stopped
 moves_in WaitCer c (Gets (Cer ids bytes apps)) e s =
-    m_accepts c (Gets (Cer ids bytes apps)) ids bytes apps (common_of c.manner c.config apps) (is_responder c.role (subst (Suits c.role) e s)) refl refl
+    m_accepts c (Gets (Cer ids bytes apps)) ids bytes apps (common_of c.manner c.config apps) (is_responder c.role (subst (Suits c.role) e s)) refl (ap awaits_cer e) refl
 moves_in WaitCer c Ticks e s = m_closes c _ why.Timeout
 moves_in WaitCer c (Stops cause) e s = m_closes c _ why.Stopped
 moves_in Open c (Gets (Cer ids bytes apps)) e s = m_only c.role c (Gets (Cer ids bytes apps)) bytes refl e s
@@ -255,11 +257,11 @@ noted o waits suspect = record { core = record o.core { waits = waits; suspect =
 
 still : (c : PlainCore) (h : Happening) (o : Outcome) (waits suspect : Bool) → Opened c h o → Opened c h (noted o waits suspect)
 still c h o waits suspect (stays e common taken) = stays e common taken
-still c h o waits suspect (by_answer ids apps role is common some) = by_answer ids apps role is common some
-still c h o waits suspect (by_request ids bytes apps role is common some taken deeds) = by_request ids bytes apps role is common some taken deeds
+still c h o waits suspect (by_answer ids apps role is met common some) = by_answer ids apps role is met common some
+still c h o waits suspect (by_request ids bytes apps role is met common some taken deeds) = by_request ids bytes apps role is met common some taken deeds
 
 m_noted : (c : PlainCore) (h : Happening) (o : Outcome) (waits suspect : Bool) → Moves c h o → Moves c h (noted o waits suspect)
-m_noted c h o waits suspect m = record { config = m.config; role = m.role; manner = m.manner; suits = m.suits; past = m.past; sends = m.sends; opened = λ e. still c h o waits suspect (m.opened e) }
+m_noted c h o waits suspect m = record { config = m.config; role = m.role; manner = m.manner; met = m.met; suits = m.suits; past = m.past; sends = m.sends; opened = λ e. still c h o waits suspect (m.opened e) }
 
 m_suspects : (c : PlainCore) (o : Outcome) → Suits c.role c.state → Moves c Ticks o → Moves c Ticks (suspects c o)
 m_suspects c o s m =

@@ -41,7 +41,8 @@ use Rattle.dia_peer.specs.Messages.{
 }
 use Rattle.dia_peer.specs.Table.{Happening, Gets, Deed, Sends, Closes, Outcome}
 use Rattle.dia_peer.specs.Life.{lives}
-use Rattle.dia_peer.specs.Machine.{IsHappening, IsOutput, AreOutputs, IsStep}
+use Rattle.dia_peer.specs.Values.{keeps}
+use Rattle.dia_peer.specs.Machine.{IsHappening, IsOutput, AreOutputs, kept_at, IsStep}
 use Rattle.dia_peer.specs.Outputs.{SentBytes, ClosedFor, plain_output, SendsBytes}
 use Rattle.dia_peer.proofs.Sets.{eq_same}
 use Rattle.dia_peer.proofs.Orders.{one_list}
@@ -56,13 +57,21 @@ both_true true false f g = sym (f refl)
 both_true false true f g = g refl
 both_true false false f g = refl
 
+-- ---- one outcome, with what is kept
+
+abbrev full : PlainCore → List ℕ → Received → Outcome
+full c b what = record { core = keeps c b what (lives c (Gets what)).core; deeds = (lives c (Gets what)).deeds }
+
+abbrev stepped : PlainCore → Event → Happening → Outcome
+stepped c e h = record { core = kept_at c e h (lives c h).core; deeds = (lives c h).deeds }
+
 -- ---- lists of the same applications
 
-cer_same : (c : PlainCore) (ids : Ids) (b : List ℕ) (apps others : List Pair) → apps ≡ others → lives c (Gets (Cer ids b apps)) ≡ lives c (Gets (Cer ids b others))
-cer_same c ids b apps others same = ap (λ (x : List Pair). lives c (Gets (Cer ids b x))) same
+cer_same : (c : PlainCore) (ids : Ids) (b : List ℕ) (apps others : List Pair) → apps ≡ others → full c b (Cer ids b apps) ≡ full c b (Cer ids b others)
+cer_same c ids b apps others same = ap (λ (x : List Pair). full c b (Cer ids b x)) same
 
-cea_same : (c : PlainCore) (ids : Ids) (n m : ℕ) (apps others : List Pair) → n ≡ m → apps ≡ others → lives c (Gets (Cea ids n apps)) ≡ lives c (Gets (Cea ids m others))
-cea_same c ids n m apps others result same = λ i. lives c (Gets (Cea ids (result i) (same i)))
+cea_same : (c : PlainCore) (b : List ℕ) (ids : Ids) (n m : ℕ) (apps others : List Pair) → n ≡ m → apps ≡ others → full c b (Cea ids n apps) ≡ full c b (Cea ids m others)
+cea_same c b ids n m apps others result same = λ i. full c b (Cea ids (result i) (same i))
 
 -- ---- what a valid message is to a core
 
@@ -80,12 +89,12 @@ recorded b false false false false ids result apps = Dpa ids
 
 recorded_same : (c : PlainCore) (b : List ℕ) (error capabilities request watchdog : Bool) (ids : Ids) (n m : ℕ) (apps others : List Pair) → (error ≡ false → capabilities ≡ true → apps ≡ others)
     → (error ≡ false → capabilities ≡ true → request ≡ false → n ≡ m)
-    → lives c (Gets (recorded b error capabilities request watchdog ids n apps)) ≡ lives c (Gets (recorded b error capabilities request watchdog ids m others))
+    → full c b (recorded b error capabilities request watchdog ids n apps) ≡ full c b (recorded b error capabilities request watchdog ids m others)
 recorded_same c b true true request watchdog ids n m apps others lists results = refl
 recorded_same c b true false request true ids n m apps others lists results = refl
 recorded_same c b true false request false ids n m apps others lists results = refl
 recorded_same c b false true true watchdog ids n m apps others lists results = cer_same c ids b apps others (lists refl refl)
-recorded_same c b false true false watchdog ids n m apps others lists results = cea_same c ids n m apps others (results refl refl refl) (lists refl refl)
+recorded_same c b false true false watchdog ids n m apps others lists results = cea_same c b ids n m apps others (results refl refl refl) (lists refl refl)
 recorded_same c b false false true true ids n m apps others lists results = refl
 recorded_same c b false false true false ids n m apps others lists results = refl
 recorded_same c b false false false true ids n m apps others lists results = refl
@@ -118,7 +127,7 @@ flag_same P h k x y same f g =
 ids_same : (x y : Ids) → x.hop ≡ y.hop → x.e2e ≡ y.e2e → x ≡ y
 ids_same x y hop e2e = λ i. record { hop = hop i; e2e = e2e i }
 
-reading_same : (c : PlainCore) (b : List ℕ) (what again : Received) → Reading b what → Reading b again → lives c (Gets what) ≡ lives c (Gets again)
+reading_same : (c : PlainCore) (b : List ℕ) (what again : Received) → Reading b what → Reading b again → full c b what ≡ full c b again
 reading_same c b what again r s =
     let g = r.good in let k = s.good in
     let one = one_message g.header k.header r.avps s.avps b g.message k.message in
@@ -129,17 +138,17 @@ reading_same c b what again r s =
     let e2e : r.ids.e2e ≡ s.ids.e2e = sym g.ids_are.1 ∙ ap (λ (h : Header). h.e2e) one.0 ∙ k.ids_are.1 in
     let ids : r.ids ≡ s.ids = ids_same r.ids s.ids hop e2e in
     let is_code : (r.code == 257) ≡ (s.code == 257) = ap (λ (n : ℕ). n == 257) code in
-    let moved : lives c (Gets (recorded b r.error (r.code == 257) r.request (r.code == 280) r.ids r.result r.apps))
-    ≡ lives c (Gets (recorded b s.error (s.code == 257) s.request (s.code == 280) s.ids r.result r.apps)) =
-    λ i. lives c (Gets (recorded b (error i) (code i == 257) (request i) (code i == 280) (ids i) r.result r.apps)) in
+    let moved : full c b (recorded b r.error (r.code == 257) r.request (r.code == 280) r.ids r.result r.apps)
+    ≡ full c b (recorded b s.error (s.code == 257) s.request (s.code == 280) s.ids r.result r.apps) =
+    λ i. full c b (recorded b (error i) (code i == 257) (request i) (code i == 280) (ids i) r.result r.apps) in
     let lists : s.error ≡ false → (s.code == 257) ≡ true → r.apps ≡ s.apps =
     λ e t. one_list s.avps r.apps s.apps (subst (λ (vs : List PlainAvp). AreAdvertised vs r.apps) one.1 (r.advertised (error ∙ e) (is_code ∙ t))) (s.advertised e t) in
     let results : s.error ≡ false → (s.code == 257) ≡ true → s.request ≡ false → r.result ≡ s.result =
     λ e t q. one_result b s.code s.request s.error s.ids s.avps r.result s.result k (eq_same s.code 257 t) q e
     (subst (λ (vs : List PlainAvp). HasResult vs r.result) one.1 (r.resulted (error ∙ e) (is_code ∙ t) (request ∙ q))) (s.resulted e t q) in
-    ap (λ (w : Received). lives c (Gets w)) r.is ∙ moved
+    ap (λ (w : Received). full c b w) r.is ∙ moved
     ∙ recorded_same c b s.error (s.code == 257) s.request (s.code == 280) s.ids r.result s.result r.apps s.apps lists results
-    ∙ sym (ap (λ (w : Received). lives c (Gets w)) s.is)
+    ∙ sym (ap (λ (w : Received). full c b w) s.is)
 
 -- ---- what bytes are to a core
 
@@ -207,18 +216,18 @@ status b (Dpa ids) (avps, g) = simple b (Dpa ids) 282 false false ids avps g (in
 status b (WatchdogError ids) (avps, g) = simple b (WatchdogError ids) 280 false true ids avps g (inr (inl refl)) (λ e t. never t) refl
 status b Other (ids, avps, g) = simple b Other 282 false true ids avps g (inr (inr refl)) (λ e t. never t) refl
 
-status_same : (c : PlainCore) (b : List ℕ) (what again : Received) → Status b what → Status b again → lives c (Gets what) ≡ lives c (Gets again)
-status_same c b what again (unreadable x u) (unreadable y v) = ap (λ (w : Received). lives c (Gets w)) (x ∙ sym y)
+status_same : (c : PlainCore) (b : List ℕ) (what again : Received) → Status b what → Status b again → full c b what ≡ full c b again
+status_same c b what again (unreadable x u) (unreadable y v) = ap (λ (w : Received). full c b w) (x ∙ sym y)
 status_same c b what again (unreadable x u) (foreign y long v) = absurd (u long)
 status_same c b what again (unreadable x u) (invalid y long ours v) = absurd (u long)
 status_same c b what again (unreadable x u) (is_good s) = absurd (u (reading_long b again s))
 status_same c b what again (foreign x long u) (unreadable y v) = absurd (v long)
-status_same c b what again (foreign x long u) (foreign y same v) = ap (λ (w : Received). lives c (Gets w)) (x ∙ sym y)
+status_same c b what again (foreign x long u) (foreign y same v) = ap (λ (w : Received). full c b w) (x ∙ sym y)
 status_same c b what again (foreign x long u) (invalid y same ours v) = absurd (u ours)
 status_same c b what again (foreign x long u) (is_good s) = absurd (u (reading_ours b again s))
 status_same c b what again (invalid x long ours u) (unreadable y v) = absurd (v long)
 status_same c b what again (invalid x long ours u) (foreign y same v) = absurd (v ours)
-status_same c b what again (invalid x long ours u) (invalid y same also v) = ap (λ (w : Received). lives c (Gets w)) (x ∙ sym y)
+status_same c b what again (invalid x long ours u) (invalid y same also v) = ap (λ (w : Received). full c b w) (x ∙ sym y)
 status_same c b what again (invalid x long ours u) (is_good s) = absurd (u s.good.valid)
 status_same c b what again (is_good r) (unreadable y v) = absurd (v (reading_long b what r))
 status_same c b what again (is_good r) (foreign y long v) = absurd (v (reading_ours b what r))
@@ -227,15 +236,15 @@ status_same c b what again (is_good r) (is_good s) = reading_same c b what again
 
 -- ---- one step
 
-happening_same : (c : PlainCore) (e : Event) (h k : Happening) → IsHappening e h → IsHappening e k → lives c h ≡ lives c k
-happening_same c event.Start h k x y = ap (λ (z : Happening). lives c z) (x ∙ sym y)
+happening_same : (c : PlainCore) (e : Event) (h k : Happening) → IsHappening e h → IsHappening e k → stepped c e h ≡ stepped c e k
+happening_same c event.Start h k x y = ap (λ (z : Happening). stepped c event.Start z) (x ∙ sym y)
 happening_same c (event.Bytes bytes) h k (what, is, x) (again, are, y) =
-    ap (λ (z : Happening). lives c z) x
+    ap (λ (z : Happening). stepped c (event.Bytes bytes) z) x
     ∙ status_same c bytes.now what again (status bytes.now what is) (status bytes.now again are)
-    ∙ sym (ap (λ (z : Happening). lives c z) y)
-happening_same c event.Tick h k x y = ap (λ (z : Happening). lives c z) (x ∙ sym y)
-happening_same c (event.Stop cause) h k x y = ap (λ (z : Happening). lives c z) (x ∙ sym y)
-happening_same c event.Lost h k x y = ap (λ (z : Happening). lives c z) (x ∙ sym y)
+    ∙ sym (ap (λ (z : Happening). stepped c (event.Bytes bytes) z) y)
+happening_same c event.Tick h k x y = ap (λ (z : Happening). stepped c event.Tick z) (x ∙ sym y)
+happening_same c (event.Stop cause) h k x y = ap (λ (z : Happening). stepped c (event.Stop cause) z) (x ∙ sym y)
+happening_same c event.Lost h k x y = ap (λ (z : Happening). stepped c event.Lost z) (x ∙ sym y)
 
 output_same : (d : Deed) (o p : Output) → IsOutput d o → IsOutput d p → SendsBytes o → SendsBytes p → plain_output o ≡ plain_output p
 output_same (Sends m) (output.Send s) (output.Send t) is also x y = ap (λ (b : List ℕ). SentBytes b) (one_writing m.header m.avps s.items t.items x y is also)
@@ -258,7 +267,7 @@ outputs_same (d ∷ deeds) (o ∷ a) (p ∷ b) (is, are) (also, more) (x, xs) (y
 pub same_outcome : (old new other : PlainCore) (e : Event) (a b : List Output) → IsStep old e a new → IsStep old e b other → All SendsBytes a → All SendsBytes b
     → (new ≡ other) × (map plain_output a ≡ map plain_output b)
 same_outcome old new other e a b (h, is, x, are) (k, also, y, more) u v =
-    let same : lives old h ≡ lives old k = happening_same old e h k is also in (
+    let same : stepped old e h ≡ stepped old e k = happening_same old e h k is also in (
       x ∙ ap (λ (o : Outcome). o.core) same ∙ sym y,
-      outputs_same (lives old k).deeds a b (subst (λ (o : Outcome). AreOutputs o.deeds a) same are) more (recursion_from_All SendsBytes a u) (recursion_from_All SendsBytes b v),
+      outputs_same (stepped old e k).deeds a b (subst (λ (o : Outcome). AreOutputs o.deeds a) same are) more (recursion_from_All SendsBytes a u) (recursion_from_All SendsBytes b v),
     )

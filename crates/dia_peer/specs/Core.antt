@@ -92,7 +92,7 @@ pub record IsConfig (c : PlainConfig) : Type 0 where
 
 -- no manner beyond those of two nodes that talk to each other
 abbrev pub plain : Manner
-plain = record { relays = false; life = false }
+plain = record { relays = false; life = false; values = false }
 
 -- the application of relays (RFC 6733 section 2.4) is for those of that manner
 abbrev pub MayHold : Manner → List App → Type 0
@@ -187,3 +187,6 @@ pub record PlainCore : Type 0 where
   pub waits : Bool
   pub suspect : Bool
   pub taken : Option PlainTaken
+  -- of the other end: the message in which it introduced itself, and its DPR
+  pub met : Option (List ℕ)
+  pub left : Option (List ℕ)

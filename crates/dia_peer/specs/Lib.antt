@@ -2,6 +2,7 @@ pub mod Core
 pub mod Messages
 pub mod Table
 pub mod Life
+pub mod Values
 pub mod World
 pub mod Machine
 pub mod Drafts

@@ -17,6 +17,7 @@ use Rattle.dia_peer.specs.Core.{PlainConfig, PlainCore, IsIdentity, AreApps, May
 use Rattle.dia_peer.specs.Messages.{Received, IsReceived}
 use Rattle.dia_peer.specs.Table.{Happening, Starts, Gets, Ticks, Stops, Breaks, Deed, Sends, Closes, Outcome, happens}
 use Rattle.dia_peer.specs.Life.{lives}
+use Rattle.dia_peer.specs.Values.{keeps}
 
 abbrev pub IsHappening : Event → Happening → Type 0
 IsHappening event.Start h = h ≡ Starts
@@ -50,11 +51,16 @@ IsTableStep old e outputs new = (h : Happening) × IsHappening e h × (new ≡ (
 
 -- no manner, or that of relays
 abbrev pub IsPlain : Manner → Type 0
-IsPlain manner = manner.life ≡ false
+IsPlain manner = (manner.life ≡ false) × (manner.values ≡ false)
+
+-- what a core keeps of the other end at an event
+abbrev pub kept_at : PlainCore → Event → Happening → PlainCore → PlainCore
+kept_at old (event.Bytes bytes) (Gets what) new = keeps old bytes.now what new
+kept_at old e h new = new
 
 -- one step: a line of the table, by the core's manner
 abbrev pub IsStep : PlainCore → Event → List Output → PlainCore → Type 0
-IsStep old e outputs new = (h : Happening) × IsHappening e h × (new ≡ (lives old h).core) × AreOutputs (lives old h).deeds outputs
+IsStep old e outputs new = (h : Happening) × IsHappening e h × (new ≡ kept_at old e h (lives old h).core) × AreOutputs (lives old h).deeds outputs
 
 -- the first thing that is wrong with a configuration for a core of this manner
 abbrev pub IsRefusedAs : Manner → PlainConfig → ConfigFault → Type 0

@@ -14,6 +14,7 @@ use Rattle.dia_peer.specs.Core.{PlainConfig, PlainCore, PlainTaken, Pair, pair, 
 use Rattle.dia_peer.specs.Messages.{Received, IsReceived}
 use Rattle.dia_peer.specs.Table.{Happening, Starts, Gets, Ticks, Stops, Breaks, Deed, Sends, Closes, without_next}
 use Rattle.dia_peer.specs.Life.{lives, heard, noticed}
+use Rattle.dia_peer.specs.Values.{keeps, AreValuesOf}
 
 -- the core of a configuration before its first event
 abbrev pub idle : PlainConfig → Role → Manner → PlainCore
@@ -31,6 +32,8 @@ idle config role manner = record {
   waits = false;
   suspect = false;
   taken = None;
+  met = None;
+  left = None;
 }
 
 -- an end, and the bytes of each message that it has sent
@@ -62,9 +65,12 @@ AreSpelled [] messages = messages ≡ []
 AreSpelled (Closes why ∷ deeds) messages = AreSpelled deeds messages
 AreSpelled (Sends m ∷ deeds) messages = (bytes : List ℕ) × (rest : List (List ℕ)) × (messages ≡ bytes ∷ rest) × AreBytes bytes × MessageWithZeros m.header m.avps bytes × AreSpelled deeds rest
 
--- what happens at an end, and what it then has sent
+-- what happens at an end, and what it then has sent, by what it keeps of the other
+abbrev pub GoesBy : (PlainCore → PlainCore) → End → Happening → End → Type 0
+GoesBy keeps old h new = (messages : List (List ℕ)) × AreSpelled (lives old.core h).deeds messages × (new ≡ record { core = keeps (lives old.core h).core; sent = old.sent ++ messages })
+
 abbrev pub Goes : End → Happening → End → Type 0
-Goes old h new = (messages : List (List ℕ)) × AreSpelled (lives old.core h).deeds messages × (new ≡ record { core = (lives old.core h).core; sent = old.sent ++ messages })
+Goes old h new = GoesBy (λ c. c) old h new
 
 abbrev pub HappensAt : End → End → Event → End → Type 0
 HappensAt old other Start new = Goes old Starts new
@@ -73,7 +79,7 @@ HappensAt old other (Stop cause) new = Goes old (Stops cause) new
 HappensAt old other Lose new = Goes old Breaks new
 HappensAt old other TakeIds new = new ≡ record { core = without_next old.core; sent = old.sent }
 HappensAt old other Hear new = new ≡ record { core = heard old.core; sent = old.sent }
-HappensAt old other (Deliver k) new = (bytes : List ℕ) × (what : Received) × (slice_get other.sent k ≡ Some bytes) × IsReceived bytes what × Goes old (Gets what) new
+HappensAt old other (Deliver k) new = (bytes : List ℕ) × (what : Received) × (slice_get other.sent k ≡ Some bytes) × IsReceived bytes what × GoesBy (keeps old.core bytes what) old (Gets what) new
 
 abbrev pub Happens : World → Role → Event → World → Type 0
 Happens w Initiator e v = HappensAt w.initiator w.responder e v.initiator × (v.responder ≡ w.responder)
@@ -116,7 +122,7 @@ pub record RepeatsAnswer (responder : End) : Type 0 where
   pub is_taken : responder.core.taken ≡ Some taken
   pub answer : List ℕ
   pub sent : Contains responder.sent answer
-  pub again : (what : Received) (new : End) → IsReceived taken.bytes what → Goes responder (Gets what) new → new ≡ record { core = noticed responder.core; sent = responder.sent ++ answer ∷ [] }
+  pub again : (what : Received) (new : End) → IsReceived taken.bytes what → GoesBy (keeps responder.core taken.bytes what) responder (Gets what) new → new ≡ record { core = noticed responder.core; sent = responder.sent ++ answer ∷ [] }
 
 pub record Agrees (a : PlainConfig) (m : Manner) (b : PlainConfig) (n : Manner) (w : World) : Type 0 where
   pub initiator : HoldsShared m a b w.initiator.core
@@ -124,3 +130,7 @@ pub record Agrees (a : PlainConfig) (m : Manner) (b : PlainConfig) (n : Manner) 
   pub same : HoldSame m n w
   pub follows : w.initiator.core.state ≡ Open → IsPastOpen w.responder.core.state
   pub repeats : w.responder.core.state ≡ Open → RepeatsAnswer w.responder
+
+-- an open end of the manner `values` keeps those of the other's configuration
+abbrev pub KnowEachOther : PlainConfig → Manner → PlainConfig → Manner → World → Type 0
+KnowEachOther a m b n w = (w.initiator.core.state ≡ Open → m.values ≡ true → AreValuesOf b w.initiator.core) × (w.responder.core.state ≡ Open → n.values ≡ true → AreValuesOf a w.responder.core)

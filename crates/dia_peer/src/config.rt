@@ -66,6 +66,9 @@ pub struct Manner {
     /// A watchdog without answer first makes the connection suspect, and closes it at the `Tick` after that, if nothing is
     /// heard of the peer (RFC 3539 section 3.4.1). Without this manner the first such `Tick` closes it.
     pub life: bool,
+    /// What the peer says of itself is kept: `Core::host`, `realm`, `product`, `result` and `cause`. Without this manner they
+    /// answer nothing.
+    pub values: bool,
 }
 
 /// Why a configuration is refused: the first that applies, in this order.

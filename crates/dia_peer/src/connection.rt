@@ -7,6 +7,9 @@ ghost use Rattle.dia_peer.specs.World.{idle};
 
 mod life;
 mod on_message;
+mod values;
+
+pub use values::Value;
 
 use crate::codes::RELAY;
 use crate::config::{Config, ConfigFault, Kind, Manner, Role};
@@ -34,6 +37,10 @@ pub struct Core {
     /// A watchdog waited at a `Tick`, and nothing was heard since.
     suspect: bool,
     taken: Option<Taken>,
+    /// The message in which the peer introduced itself: its CER, or its answer to ours.
+    met: Option<Vec<u8>>,
+    /// The DPR of the peer.
+    left: Option<Vec<u8>>,
 }
 
 impl Model for Core {
@@ -55,6 +62,8 @@ impl Model for Core {
       waits = c.waits;
       suspect = c.suspect;
       taken = option_map taken_of c.taken;
+      met = option_map (λ bytes. bytes.items) c.met;
+      left = option_map (λ bytes. bytes.items) c.left;
     } };
 }
 
@@ -84,6 +93,7 @@ impl Core {
         let manner = Manner {
             relays: false,
             life: false,
+            values: false,
         };
         Core::with(alloc, config, role, manner)
     }
@@ -116,6 +126,8 @@ impl Core {
             waits: false,
             suspect: false,
             taken: None,
+            met: None,
+            left: None,
         })
     }
 
@@ -175,7 +187,7 @@ impl Core {
             Event::Start => self.starts(),
             Event::Bytes(bytes) => {
                 let what = self.node.received(bytes)?;
-                self.takes(bytes, what)
+                self.keeps(bytes, what)
             }
             Event::Tick => self.waits_on(),
             Event::Stop(cause) => self.stops(cause),

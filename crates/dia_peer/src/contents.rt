@@ -1,6 +1,7 @@
 //! What the AVPs of a message say: the applications that it names, and its result code.
 
-ghost use Rattle.std.specs.Prelude.{◌≡◌, ◌⊎◌, ◌↔◌, ℕ, List, IsTrue, IfOk, OnOk, MatchOption};
+ghost use Rattle.std.specs.Prelude.{◌≡◌, ◌⊎◌, ◌↔◌, ℕ, List, IsTrue, IfOk, OnOk, MatchOption, drop, option_copied};
+ghost use Rattle.dia_peer.specs.Values.{first_data, has_code};
 ghost use Rattle.std.specs.List.{AllByRecursion};
 ghost use Rattle.dia_wire.specs.Wire.{PlainAvp, plain_avp, SpellsAll};
 ghost use Rattle.dia_peer.specs.Core.{Pair, are_in_order};
@@ -25,7 +26,7 @@ use crate::codes::{
 use crate::config::Kind;
 use crate::named_apps::NamedApps;
 use dia_book::Key;
-use dia_wire::{Avp, Avps, key, number32};
+use dia_wire::{Avp, Avps, HEADER_LENGTH, key, number32};
 use std::alloc::{AllocError, Global};
 
 /// The applications that the AVPs of a body name, and those directly inside its Vendor-Specific-Application-Ids.
@@ -44,6 +45,26 @@ pub(crate) fn named_in(alloc: Global, body: &[u8]) -> Result<NamedApps, AllocErr
     }
     named.know_their_order();
     Ok(named)
+}
+
+/// The data of the first AVP of a code without vendor in a message.
+pub(crate) fn first_data(message: &[u8], code: u32) -> Option<&[u8]>
+    ensures { (avps : List PlainAvp) → SpellsAll avps (drop 20 message.entry.now)
+        → option_copied result ≡ first_data code avps }
+{
+    for found in Avps::new(message.get(HEADER_LENGTH..)?) {
+        let Ok(avp) = found else { break };
+        if has_code(key(&avp), code) {
+            return Some(avp.bytes);
+        }
+    }
+    None
+}
+
+fn has_code(key: Key, code: u32) -> bool
+    ensures { result ≡ has_code code key }
+{
+    key.code == code && key.vendor == 0
 }
 
 /// The number of the first Result-Code.

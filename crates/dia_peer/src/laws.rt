@@ -9,7 +9,7 @@ ghost use Rattle.dia_valid.specs.Valid.{IsValid};
 ghost use Rattle.dia_peer.specs.Core.{PlainConfig, PlainCore, IsConfig, Pair, Sent};
 ghost use Rattle.dia_peer.specs.Core.{pair_of, is_relay, plain, common_of};
 ghost use Rattle.dia_peer.specs.Messages.{IsOurs};
-ghost use Rattle.dia_peer.specs.World.{World, Event as AnyEvent, Run, start, idle, Agrees};
+ghost use Rattle.dia_peer.specs.World.{World, Event as AnyEvent, Run, start, idle, Agrees, KnowEachOther};
 ghost use Rattle.dia_peer.specs.Life.{Act, ClosesInSilence};
 ghost use Rattle.dia_peer.specs.Machine.{IsPlain, IsStep, IsTableStep};
 ghost use Rattle.dia_peer.specs.Table.{Happening};
@@ -40,6 +40,14 @@ pub fn without_relays()
 pub fn our_messages_are_valid()
     ensures { (c : PlainConfig) (m : Sent) (bytes : List ℕ) → IsConfig c → IsOurs c m
         → IsMessage m.header m.avps bytes → IsValid base Kept Any bytes }
+{}
+
+/// The values that an open end of the manner `values` keeps of the other, of any manner, are those of the other's
+/// configuration: host, realm and product.
+pub fn their_values()
+    ensures { (a b : PlainConfig) (m n : AnyManner) (events : List (AnyRole × AnyEvent)) (w : World)
+        → IsConfig a → IsConfig b
+        → Run (start a m b n) events w → KnowEachOther a m b n w }
 {}
 
 /// With the manner `life`, a watchdog closes a connection only at a `Tick` after another one, both while it waits for its

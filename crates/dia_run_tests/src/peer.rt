@@ -42,6 +42,7 @@ fn relay(rt: &(impl AllocGlobal + Abort), config: Config, role: Role) -> Box<Cor
     let manner = Manner {
         relays: true,
         life: false,
+        values: false,
     };
     let core = Core::with(rt.alloc(), config, role, manner).expect(rt, "an end");
     Box::new(rt.alloc(), core).ok().expect(rt, "memory")

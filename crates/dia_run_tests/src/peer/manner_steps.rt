@@ -70,10 +70,37 @@ ids => 19 35
 core relays | Responder | auth:4294967295 => Idle
 start => WaitCer
 comes $CER4 => Open send 0100007800000101 000000000000000100000002 $SUCCESS $HOST $REALM $IP $VENDOR $P $RELAY
+values => host - realm - product - result - cause -
 common => Auth 4
 
 # Its peer has 4294967295, no manner here.
 core none | Responder | auth:4 => Idle
 start => WaitCer
 comes 0100006080000101 000000000000000100000002 $OH $OR $IP $VENDOR $P $RELAY => Closed send 0100007800000101 000000000000000100000002 $NO_COMMON $HOST $REALM $IP $VENDOR $P $AUTH4 close NoCommon
+
+# The peer's values, opened.
+core values | Responder | auth:4 => Idle
+start => WaitCer
+values => host - realm - product - result - cause -
+common => 
+comes $CER4 => Open send $OWN_CEA
+values => host a.b realm b product p result - cause -
+common => Auth 4
+comes 010000388000011a 000000000000000100000002 $OH $OR 000001114000000c00000001 => Closed send 010000440000011a 000000000000000100000002 $SUCCESS $HOST $REALM close PeerStopped
+values => host a.b realm b product p result - cause 1
+common => Auth 4
+
+# A CEA with 5010.
+core values | Initiator | auth:4 => Idle
+start => WaitCea send $OWN_CER
+comes 0100006c00000101 000000000000001000000020 $NO_COMMON $OH $OR $IP $VENDOR $P $AUTH4 => Closed close NoCommon
+values => host a.b realm b product p result 5010 cause -
+common => 
+
+# An error message, 3010.
+core values | Initiator | auth:4 => Idle
+start => WaitCea send $OWN_CER
+comes 0100003820000101 000000000000001000000020 $OH $OR 0000010c4000000c00000bc2 => Closed close Refused
+values => host a.b realm b product - result 3010 cause -
+common =>
 ";

@@ -3,11 +3,12 @@
 //! ```text
 //! core MANNER.. | ROLE | APPLICATIONS => STATE
 //! start, comes MESSAGE, tick, stop CAUSE, lost, heard => STATE [suspect] [send MESSAGE] [close WHY]
-//! ids => HOP E2E, common => APPLICATIONS
+//! ids => HOP E2E, common => APPLICATIONS, values => host TEXT realm TEXT product TEXT result NUMBER cause NUMBER
 //! ```
 //!
 //! `core` makes a new core of the end `host.invalid`: its manners, or `none`. A step is what happens to it, and its answer the
-//! state that it then is in and what it did. `ids` takes the next identifiers.
+//! state that it then is in and what it did. `ids` takes the next identifiers, and `values` is answered by what the peer said of
+//! itself, `-` where it said nothing.
 
 use super::connections::{apps_of, cause_of, common, recorded};
 use super::manner_steps::STEPS;
@@ -16,6 +17,7 @@ use super::{config, deliver};
 use crate::words::same;
 use dia_peer::{Core, Event, Manner, Role};
 use dia_rows::{Names, Row, bytes_of, field, without_blanks, word};
+use std::alloc::{AllocError, Global};
 use std::process::Abort;
 
 #[test]
@@ -64,6 +66,7 @@ fn manner_of(words: &str) -> Manner {
     Manner {
         relays: has("relays"),
         life: has("life"),
+        values: has("values"),
     }
 }
 
@@ -76,6 +79,7 @@ fn done(rt: &(impl AllocGlobal + Abort), names: &Names, core: &mut Core, call: &
         "core" => return recorded(rt.alloc(), core, &[]).expect(rt, "memory"),
         "common" => return common(rt.alloc(), core).expect(rt, "memory"),
         "ids" => return ids(rt, core),
+        "values" => return values(rt.alloc(), core).expect(rt, "memory"),
         "heard" => {
             core.heard();
             return recorded(rt.alloc(), core, &[]).expect(rt, "memory");
@@ -94,4 +98,30 @@ fn done(rt: &(impl AllocGlobal + Abort), names: &Names, core: &mut Core, call: &
 fn ids(rt: &(impl AllocGlobal + Abort), core: &mut Core) -> String {
     let (hop, e2e) = core.take_ids();
     format!(in rt.alloc(); "{hop} {e2e}").expect(rt, "memory")
+}
+
+/// What the peer said of itself, as text.
+fn values(alloc: Global, core: &Core) -> Result<String, AllocError> {
+    let mut text = String::new(alloc);
+    push_text(&mut text, "host", core.host())?;
+    push_text(&mut text, "realm", core.realm())?;
+    push_text(&mut text, "product", core.product())?;
+    push_number(&mut text, "result", core.result())?;
+    push_number(&mut text, "cause", core.cause())?;
+    Ok(text)
+}
+
+fn push_text(text: &mut String, name: &str, value: Option<&[u8]>) -> Result<(), AllocError> {
+    let value = match value {
+        Some(bytes) => str::from_utf8(bytes).unwrap_or("bytes that are no text"),
+        None => "-",
+    };
+    write!(text, "{name} {value} ")
+}
+
+fn push_number(text: &mut String, name: &str, value: Option<u32>) -> Result<(), AllocError> {
+    match value {
+        Some(number) => write!(text, "{name} {number} "),
+        None => write!(text, "{name} - "),
+    }
 }

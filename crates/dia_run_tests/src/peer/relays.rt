@@ -98,6 +98,7 @@ fn one_manner_allows_the_application(rt: HostRuntime) {
         let manner = Manner {
             relays,
             life: false,
+            values: false,
         };
         let found = Core::with(rt.alloc(), config, Role::Initiator, manner).err();
         let refused = found == Some(ConfigFault::Application);
