@@ -153,11 +153,11 @@ delivered old other new k bytes what at received g = record {
   left = if_kept old.core.manner.values (leaves old.core what) bytes (lives old.core (Gets what)).core.left;
   is = g.2 ∙ ap (λ (c : PlainCore). record { core = c; sent = old.sent ++ g.0 }) (keeps_both old.core.manner.values (introduces old.core what) (leaves old.core what) bytes (lives old.core (Gets what)).core);
   meets = λ w e values by. (
-      bytes,
-      at_in other.sent k bytes at,
-      subst (IsReceived bytes) (same_Some what w (ap what_of e)) received,
-      (λ i. if_kept (values i) ((ap (introduces old.core) (same_Some what w (ap what_of e)) ∙ by) i) bytes (lives old.core (Gets what)).core.met),
-    );
+    bytes,
+    at_in other.sent k bytes at,
+    subst (IsReceived bytes) (same_Some what w (ap what_of e)) received,
+    (λ i. if_kept (values i) ((ap (introduces old.core) (same_Some what w (ap what_of e)) ∙ by) i) bytes (lives old.core (Gets what)).core.met),
+  );
   had = λ e. not_kept old.core.manner.values (introduces old.core what) bytes (lives old.core (Gets what)).core.met (known old.core what e);
 }
 

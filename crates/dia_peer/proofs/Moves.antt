@@ -151,7 +151,8 @@ m_starts Initiator c h e s =
     record {
       config = refl;
       role = refl;
-      manner = refl; met = refl;
+      manner = refl;
+      met = refl;
       suits = subst (λ r. Suits r WaitCea) (sym e) tt;
       past = λ p. absurd (idle_not (subst IsPastOpen s p));
       sends = (asks c.next e refl, tt);
@@ -180,7 +181,8 @@ m_accepts c h ids bytes apps (Some []) r e met is = m_answers c h (cea c.config 
 m_accepts c h ids bytes apps (Some (p ∷ ps)) r e met is = record {
   config = refl;
   role = refl;
-  manner = refl; met = refl;
+  manner = refl;
+  met = refl;
   suits = suits_open c.role;
   past = λ x. past_open;
   sends = (accepts_it ids r past_open refl, tt);

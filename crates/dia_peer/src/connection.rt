@@ -9,8 +9,6 @@ mod life;
 mod on_message;
 mod values;
 
-pub use values::Value;
-
 use crate::codes::RELAY;
 use crate::config::{Config, ConfigFault, Kind, Manner, Role};
 use crate::event::{Cause, Event, Output, State, Why};
@@ -18,6 +16,7 @@ use crate::kept_requests::{Ids, Taken};
 use crate::node::Node;
 use std::alloc::{AllocError, Global};
 use std::marker::Model;
+pub use values::Value;
 
 /// One end of a connection.
 ///
