@@ -1,5 +1,5 @@
 -- Without a manner a step is a line of the table.
-use Rattle.std.proofs.Common.{◌≡◌, Bool, false, cond, List, Some, refl, sym, ap, subst, ◌∙◌}
+use Rattle.std.proofs.Common.{◌≡◌, Bool, false, cond, List, Some, None, refl, sym, ap, subst, ◌∙◌}
 use Rattle.std.specs.Prelude.{◌↔◌}
 use Rattle.dia_peer.specs.Core.{PlainCore}
 use Rattle.dia_peer.specs.Table.{Happening, Starts, Gets, Ticks, Stops, Breaks, Outcome, happens}
@@ -7,7 +7,7 @@ use Rattle.dia_peer.specs.Life.{suspects, hears, lives}
 use Rattle.dia_peer.specs.declared.event.Event.{Event}
 use Rattle.dia_peer.specs.declared.event.Output.{Output}
 use Rattle.dia_peer.specs.declared.event.Event.TheVariants as event
-use Rattle.dia_peer.specs.Values.{introduces, leaves}
+use Rattle.dia_peer.specs.Values.{introduces, leaves, newer}
 use Rattle.dia_peer.specs.Machine.{IsHappening, AreOutputs, kept_at, IsPlain, IsStep, IsTableStep}
 
 pub as_table : (c : PlainCore) (h : Happening) → c.manner.life ≡ false → lives c h ≡ happens c h
@@ -20,7 +20,7 @@ as_table c Breaks e = refl
 kept_none : (old : PlainCore) (e : Event) (h : Happening) (new : PlainCore) → old.manner.values ≡ false → kept_at old e h new ≡ new
 kept_none old event.Start h new v = refl
 kept_none old (event.Bytes bytes) Starts new v = refl
-kept_none old (event.Bytes bytes) (Gets what) new v = ap (λ (b : Bool). cond b (record new { met = cond (introduces old what) (Some bytes.now) new.met; left = cond (leaves old what) (Some bytes.now) new.left }) new) v
+kept_none old (event.Bytes bytes) (Gets what) new v = ap (λ (b : Bool). cond b (record new { met = newer (cond (introduces old what) (Some bytes.now) None) new.met; left = newer (cond (leaves old what) (Some bytes.now) None) new.left }) new) v
 kept_none old (event.Bytes bytes) Ticks new v = refl
 kept_none old (event.Bytes bytes) (Stops cause) new v = refl
 kept_none old (event.Bytes bytes) Breaks new v = refl

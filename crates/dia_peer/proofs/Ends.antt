@@ -14,7 +14,7 @@ use Rattle.dia_peer.specs.Core.{PlainConfig, IsConfig, PlainCore, PlainTaken, Pa
 use Rattle.dia_peer.specs.Messages.{Received, Unreadable, Foreign, Invalid, Cer, Dwr, Dpr, Cea, Refusal, Dwa, Dpa, WatchdogError, Other, cea, IsGood, IsReceived}
 use Rattle.dia_peer.specs.Table.{Happening, Starts, Gets, Ticks, Stops, Breaks, Deed, Sends, Closes, Outcome, nothing, same_bytes, same_ids, repeated, only_responder, happens_in, happens, without_next}
 use Rattle.dia_peer.specs.Life.{heard, noticed, hears, lives}
-use Rattle.dia_peer.specs.Values.{awaits_cea, awaits_cer, introduces, leaves, keeps}
+use Rattle.dia_peer.specs.Values.{awaits_cea, awaits_cer, introduces, leaves, newer, keeps}
 use Rattle.dia_peer.proofs.SentValues.{Says, values_are}
 use Rattle.dia_peer.specs.World.{End, World, Event, Start, Tick, Stop, Lose, TakeIds, Hear, Deliver, AreBytes, AreSpelled, Goes, GoesBy, KnowEachOther, HappensAt, Happens, Run, start, AreShared, IsCommon, HoldsShared, HoldSame, IsPastOpen, RepeatsAnswer, Agrees}
 use Rattle.dia_peer.proofs.Sets.{IsIn, to_in, of_in, in_cases, in_left, in_right, eq_self}
@@ -132,14 +132,14 @@ known c (WatchdogError ids) e = refl
 known c Other e = refl
 
 abbrev if_kept : Bool → Bool → List ℕ → Option (List ℕ) → Option (List ℕ)
-if_kept values by bytes old = cond values (cond by (Some bytes) old) old
+if_kept values by bytes old = cond values (newer (cond by (Some bytes) None) old) old
 
 not_kept : (values by : Bool) (bytes : List ℕ) (old : Option (List ℕ)) → by ≡ false → if_kept values by bytes old ≡ old
-not_kept true by bytes old e = ap (λ (t : Bool). cond t (Some bytes) old) e
+not_kept true by bytes old e = ap (λ (t : Bool). newer (cond t (Some bytes) None) old) e
 not_kept false by bytes old e = refl
 
 keeps_both : (values meets leaves : Bool) (bytes : List ℕ) (new : PlainCore)
-    → cond values (record new { met = cond meets (Some bytes) new.met; left = cond leaves (Some bytes) new.left }) new ≡ record new { met = if_kept values meets bytes new.met; left = if_kept values leaves bytes new.left }
+    → cond values (record new { met = newer (cond meets (Some bytes) None) new.met; left = newer (cond leaves (Some bytes) None) new.left }) new ≡ record new { met = if_kept values meets bytes new.met; left = if_kept values leaves bytes new.left }
 keeps_both true meets leaves bytes new = refl
 keeps_both false meets leaves bytes new = refl
 

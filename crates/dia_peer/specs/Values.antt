@@ -38,9 +38,14 @@ abbrev pub leaves : PlainCore → Received → Bool
 leaves c (Dpr ids) = takes_dpr c.state
 leaves c what = false
 
+-- what was found, or else what was there
+abbrev pub newer : Option (List ℕ) → Option (List ℕ) → Option (List ℕ)
+newer None old = old
+newer (Some bytes) old = Some bytes
+
 -- the core after a message, with what it keeps of it
 abbrev pub keeps : PlainCore → List ℕ → Received → PlainCore → PlainCore
-keeps old bytes what new = if old.manner.values then record new { met = if introduces old what then Some bytes else new.met; left = if leaves old what then Some bytes else new.left } else new
+keeps old bytes what new = if old.manner.values then record new { met = newer (if introduces old what then Some bytes else None) new.met; left = newer (if leaves old what then Some bytes else None) new.left } else new
 
 -- ---- values
 

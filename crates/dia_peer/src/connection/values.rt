@@ -6,7 +6,7 @@ ghost use Rattle.dia_peer.specs.Incoming.{received_of};
 ghost use Rattle.dia_peer.specs.Life.{lives};
 ghost use Rattle.dia_peer.specs.Machine.{AreOutputs};
 ghost use Rattle.dia_peer.specs.Table.{Gets};
-ghost use Rattle.dia_peer.specs.Values.{IsNumber, IsValue, code_of, introduces, keeps, leaves, said_in};
+ghost use Rattle.dia_peer.specs.Values.{IsNumber, IsValue, code_of, introduces, keeps, leaves, newer, said_in};
 
 use super::Core;
 use super::on_message::same_ids;
@@ -39,11 +39,11 @@ impl Core {
         ensures { IsValue (code_of which) (said_in self.now which) (option_copied result) }
     {
         match which {
-            Value::Host => first_data(self.met.as_ref()?, ORIGIN_HOST),
-            Value::Realm => first_data(self.met.as_ref()?, ORIGIN_REALM),
-            Value::Product => first_data(self.met.as_ref()?, PRODUCT_NAME),
-            Value::Result => first_data(self.met.as_ref()?, RESULT_CODE),
-            Value::Cause => first_data(self.left.as_ref()?, DISCONNECT_CAUSE),
+            Value::Host => data_in(&self.met, ORIGIN_HOST),
+            Value::Realm => data_in(&self.met, ORIGIN_REALM),
+            Value::Product => data_in(&self.met, PRODUCT_NAME),
+            Value::Result => data_in(&self.met, RESULT_CODE),
+            Value::Cause => data_in(&self.left, DISCONNECT_CAUSE),
         }
     }
 
@@ -96,12 +96,8 @@ impl Core {
         let met = copied_if(self.node.alloc, self.introduces(&what), bytes)?;
         let left = copied_if(self.node.alloc, self.is_left_by(&what), bytes)?;
         let outputs = self.takes(bytes, what)?;
-        if met.is_some() {
-            self.met = met;
-        }
-        if left.is_some() {
-            self.left = left;
-        }
+        renew(&mut self.met, met);
+        renew(&mut self.left, left);
         Ok(outputs)
     }
 
@@ -126,6 +122,23 @@ impl Core {
             Incoming::Dpr(_) => self.state == State::Open || self.state == State::WaitDpa,
             _ => false,
         }
+    }
+}
+
+/// The data of the first AVP of a code in a message, if there is a message.
+fn data_in(message: &Option<Vec<u8>>, code: u32) -> Option<&[u8]>
+    ensures { IsValue code (option_map (λ v. v.items) message.entry.now) (option_copied result) }
+{
+    first_data(message.as_ref()?, code)
+}
+
+/// Keeps what was found, or else what was there.
+fn renew(kept: &mut Option<Vec<u8>>, found: Option<Vec<u8>>)
+    ensures { option_map (λ v. v.items) kept.new
+        ≡ newer (option_map (λ v. v.items) found) (option_map (λ v. v.items) kept.old) }
+{
+    if found.is_some() {
+        *kept = found;
     }
 }
 
