@@ -2,6 +2,7 @@
 use Rattle.std.proofs.Common.{◌≡◌, ℕ, Bool, true, false, cond, List, [], ◌∷◌, ◌++◌, length, map, drop, Option, Some, None, refl, sym, ap, subst, ◌∙◌}
 use Rattle.std.specs.Prelude.{◌↔◌}
 use Rattle.std.proofs.lemmas.List.{drop_at}
+use Rattle.std.proofs.lemmas.Option.{none-some}
 use Rattle.dia_wire.specs.declared.Header.{Header}
 use Rattle.dia_wire.specs.Wire.{PlainAvp, key_of, SpellsAll, IsMessage}
 use Rattle.dia_peer.specs.declared.config.Ip.{Ip}
@@ -27,7 +28,7 @@ either true x r s d f e = e
 either false x r s d f e = f e
 
 in_front : (code : ℕ) (xs ys : List PlainAvp) (d : List ℕ) → first_data code xs ≡ Some d → first_data code (xs ++ ys) ≡ Some d
-in_front code [] ys d e = absurd cc
+in_front code [] ys d e = absurd (none-some d e)
 in_front code (v ∷ xs) ys d e = either (has_code code (key_of v)) v.bytes (first_data code xs) (first_data code (xs ++ ys)) d (in_front code xs ys d) e
 
 product_in : (ips : List Ip) (vendor : ℕ) (name : List ℕ) → first_data 269 (map (λ ip. avp 257 64 (address ip)) ips ++ avp32 266 vendor ∷ avp 269 0 name ∷ []) ≡ Some name
