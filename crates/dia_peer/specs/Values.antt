@@ -79,7 +79,7 @@ IsValue code (Some message) value = (avps : List PlainAvp) → SpellsAll avps (d
 
 abbrev pub IsNumber : ℕ → Option (List ℕ) → Option ℕ → Type 0
 IsNumber code None value = value ≡ None
-IsNumber code (Some message) value = (avps : List PlainAvp) → SpellsAll avps (drop 20 message) → value ≡ option_and_then (first_data code avps) number_of
+IsNumber code (Some message) value = (avps : List PlainAvp) → SpellsAll avps (drop 20 message) → value ≡ option_and_then number_of (first_data code avps)
 
 -- the values that a core keeps are those of this configuration
 pub record AreValuesOf (c : PlainConfig) (core : PlainCore) : Type 0 where

@@ -52,7 +52,19 @@ pub(crate) fn first_data(message: &[u8], code: u32) -> Option<&[u8]>
     ensures { (avps : List PlainAvp) → SpellsAll avps (drop 20 message.entry.now)
         → option_copied result ≡ first_data code avps }
 {
-    for found in Avps::new(message.get(HEADER_LENGTH..)?) {
+    let length = message.len();
+    if length < HEADER_LENGTH {
+        return None;
+    }
+    first_in(&message[HEADER_LENGTH..], code)
+}
+
+/// The same in a body.
+fn first_in(body: &[u8], code: u32) -> Option<&[u8]>
+    ensures { (avps : List PlainAvp) → SpellsAll avps body.entry.now
+        → option_copied result ≡ first_data code avps }
+{
+    for found in Avps::new(body) {
         let Ok(avp) = found else { break };
         if has_code(key(&avp), code) {
             return Some(avp.bytes);

@@ -1,12 +1,12 @@
 //! What a core of the manner `values` keeps of the peer (RFC 6733 sections 5.3 and 5.4).
 
 ghost use Rattle.std.specs.Prelude.{◌≡◌, ℕ, List, IfOk, OnErr, Some, None, if◌then◌else◌, option_copied};
-ghost use Rattle.std.specs.Option.{option_map};
+ghost use Rattle.std.specs.Option.{option_and_then, option_map};
 ghost use Rattle.dia_peer.specs.Incoming.{received_of};
 ghost use Rattle.dia_peer.specs.Life.{lives};
 ghost use Rattle.dia_peer.specs.Machine.{AreOutputs};
 ghost use Rattle.dia_peer.specs.Table.{Gets};
-ghost use Rattle.dia_peer.specs.Values.{IsNumber, IsValue, code_of, introduces, keeps, leaves, newer, said_in};
+ghost use Rattle.dia_peer.specs.Values.{IsNumber, IsValue, code_of, introduces, keeps, leaves, newer, number_of, said_in};
 
 use super::Core;
 use super::on_message::same_ids;
@@ -73,14 +73,14 @@ impl Core {
     pub fn result(&self) -> Option<u32>
         ensures { IsNumber RESULT_CODE self.now.met result }
     {
-        number32(self.value(Value::Result)?)
+        number_of(self.value(Value::Result))
     }
 
     /// The Disconnect-Cause of the DPR of the peer. Allocates nothing.
     pub fn cause(&self) -> Option<u32>
         ensures { IsNumber DISCONNECT_CAUSE self.now.left result }
     {
-        number32(self.value(Value::Cause)?)
+        number_of(self.value(Value::Cause))
     }
 
     /// A message came, which may say something of the peer.
@@ -122,6 +122,16 @@ impl Core {
             Incoming::Dpr(_) => self.state == State::Open || self.state == State::WaitDpa,
             _ => false,
         }
+    }
+}
+
+/// The number that four bytes are.
+fn number_of(value: Option<&[u8]>) -> Option<u32>
+    ensures { result ≡ option_and_then number_of (option_copied value.entry) }
+{
+    match value {
+        Some(bytes) => number32(bytes),
+        None => None,
     }
 }
 

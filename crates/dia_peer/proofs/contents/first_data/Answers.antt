@@ -1,29 +1,13 @@
-use Rattle.std.proofs.Common.{ap, ◌∙◌}
-use Rattle.dia_wire.specs.Level.{level_left}
-use Rattle.dia_wire.specs.Wire.{plain_avp}
-use Rattle.dia_peer.specs.Values.{has_code}
-use Rattle.dia_peer.proofs.LevelWalks.{goes_on, ends, ends_at_fault}
-use Rattle.dia_peer.proofs.FirstData.{leads_on, leads_here, leads_nowhere}
+use Rattle.std.proofs.Common.{sym, subst, arith}
+use Rattle.dia_wire.specs.Wire.{SpellsAll}
+use Rattle.dia_peer.proofs.FirstData.{none_in_short}
+use Rattle.dia_peer.proofs.RecordedApplications.{rest_of}
 use Rattle.dia_peer.proofs.contents.first_data.Goals as goal
 
-pub returns-then-has_code : goal.returns-then-has_code
-returns-then-has_code c avps all =
-    let level = level_left c.loop-found.found-iterator in let left = level_left c.next.new.self in
-    leads_here c.args.code avps (plain_avp c.in-Ok.avp) level left (c.loop-found.invariant avps all) (goes_on level left c.in-Some.found c.in-Ok.avp c.in-Some.ensures.steps c.in-Ok.is)
-    (c.if-has_code.ensures ∙ ap (has_code c.args.code) c.key.ensures)
+pub returns-then-length-lt-HEADER_LENGTH : goal.returns-then-length-lt-HEADER_LENGTH
+returns-then-length-lt-HEADER_LENGTH c avps all =
+    let size = c.len-length.ensures in let few = c.if-length-lt-HEADER_LENGTH.true in
+    none_in_short c.args.code avps c.args.message.now (omega (arith, size, few)) all
 
-pub loop-found-preserved : goal.loop-found-preserved
-loop-found-preserved c avps all =
-    let level = level_left c.loop-found.found-iterator in let left = level_left c.next.new.self in
-    leads_on c.args.code avps (plain_avp c.in-Ok.avp) level left (c.loop-found.invariant avps all) (goes_on level left c.in-Some.found c.in-Ok.avp c.in-Some.ensures.steps c.in-Ok.is)
-    (c.if-has_code.ensures ∙ ap (has_code c.args.code) c.key.ensures)
-
-pub returns-in-None : goal.returns-in-None
-returns-in-None c avps all =
-    let level = level_left c.loop-found.found-iterator in
-    leads_nowhere c.args.code avps level (c.loop-found.invariant avps all) (ends level (level_left c.next.new.self) c.in-None.ensures.steps)
-
-pub returns-in_default : goal.returns-in_default
-returns-in_default c avps all =
-    let level = level_left c.loop-found.found-iterator in
-    leads_nowhere c.args.code avps level (c.loop-found.invariant avps all) (ends_at_fault level (level_left c.next.new.self) c.in-Some.found c.in_default.field-0 c.in-Some.ensures.steps c.in_default.is)
+pub returns-else-length-lt-HEADER_LENGTH : goal.returns-else-length-lt-HEADER_LENGTH
+returns-else-length-lt-HEADER_LENGTH c avps all = c.first_in.ensures avps (subst (SpellsAll avps) (sym (rest_of c.args.message.now)) all)
