@@ -8,7 +8,7 @@ use Rattle.dia_peer.specs.declared.event.Event.{Event}
 use Rattle.dia_peer.specs.declared.event.Output.{Output}
 use Rattle.dia_peer.specs.declared.event.Event.TheVariants as event
 use Rattle.dia_peer.specs.Values.{introduces, leaves, newer}
-use Rattle.dia_peer.specs.Machine.{IsHappening, AreOutputs, kept_at, IsPlain, IsStep, IsTableStep}
+use Rattle.dia_peer.specs.Machine.{AreOutputs, kept_at, IsPlain, IsStep, IsTableStep}
 
 pub as_table : (c : PlainCore) (h : Happening) → c.manner.life ≡ false → lives c h ≡ happens c h
 as_table c Starts e = refl

@@ -1,5 +1,5 @@
 -- What the CER and the CEA of an end say of it.
-use Rattle.std.proofs.Common.{◌≡◌, ℕ, Bool, true, false, cond, List, [], ◌∷◌, ◌++◌, length, map, drop, Option, Some, None, refl, sym, ap, subst, ◌∙◌}
+use Rattle.std.proofs.Common.{◌≡◌, ℕ, Bool, true, false, cond, List, [], ◌∷◌, ◌++◌, map, drop, Option, Some, refl, sym, ap, subst, ◌∙◌}
 use Rattle.std.specs.Prelude.{◌↔◌}
 use Rattle.std.proofs.lemmas.List.{drop_at}
 use Rattle.std.proofs.lemmas.Option.{none-some}
@@ -8,7 +8,7 @@ use Rattle.dia_wire.specs.Wire.{PlainAvp, key_of, SpellsAll, IsMessage}
 use Rattle.dia_peer.specs.declared.config.Ip.{Ip}
 use Rattle.dia_peer.specs.declared.kept_requests.Ids.{Ids}
 use Rattle.dia_peer.specs.Core.{PlainConfig, PlainCore}
-use Rattle.dia_peer.specs.Messages.{avp, avp32, address, origin, capabilities, applications, if_some, cer, cea}
+use Rattle.dia_peer.specs.Messages.{avp, avp32, address, capabilities, applications, if_some, cer, cea}
 use Rattle.dia_peer.specs.Values.{has_code, first_data, IsValue, AreValuesOf}
 use Rattle.dia_peer.proofs.SpelledMessages.{head_size, one_list}
 

@@ -1,6 +1,6 @@
 -- A watchdog closes only after a `Tick` at which it waited, with nothing heard since.
 use Rattle.std.proofs.Common.{◌≡◌, ℕ, Bool, true, false, cond, List, [], ◌∷◌, ◌++◌, Option, Some, None, inl, inr, refl, sym, ap, subst, ◌∙◌, append_assoc}
-use Rattle.std.specs.Prelude.{◌==◌, ◌&&◌, ◌||◌, not, ⊤, IsTrue, Contains}
+use Rattle.std.specs.Prelude.{◌==◌, ◌&&◌, ◌||◌, not, IsTrue}
 use Rattle.std.specs.List.{AllByRecursion, list_any}
 use Rattle.std.proofs.lemmas.Bool.{cond_both}
 use Rattle.dia_peer.specs.declared.config.Role.{Role}
@@ -11,7 +11,7 @@ use Rattle.dia_peer.specs.declared.event.State.TheVariants.{Idle, WaitCea, WaitC
 use Rattle.dia_peer.specs.declared.event.Why.TheVariants as why
 use Rattle.dia_peer.specs.declared.kept_requests.Ids.{Ids}
 use Rattle.dia_peer.specs.Core.{PlainConfig, PlainCore, PlainTaken, Pair, common_of}
-use Rattle.dia_peer.specs.Messages.{Received, Cer, Dwr, Dpr, Cea, Refusal, Dwa, Dpa, cea, dwr, after}
+use Rattle.dia_peer.specs.Messages.{Received, Cer, Cea, Refusal, Dwa, Dpa, cea, dwr, after}
 use Rattle.dia_peer.specs.Table.{Happening, Starts, Gets, Ticks, Stops, Breaks, Deed, Sends, Closes, Outcome, nothing, closes, same_bytes, same_ids, starts, opens, answered, accepts, repeated, only_responder, ticks_open, happens_in, happens}
 use Rattle.dia_peer.specs.World.{idle}
 use Rattle.dia_peer.specs.Life.{is_open, suspects, hears, lives, Act, Does, Hears, TakesIds, acts, after_all, IsSilent, AwaitsDwa, SilentSinceTick, ClosesInSilence}

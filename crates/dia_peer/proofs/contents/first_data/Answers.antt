@@ -5,9 +5,7 @@ use Rattle.dia_peer.proofs.RecordedApplications.{rest_of}
 use Rattle.dia_peer.proofs.contents.first_data.Goals as goal
 
 pub returns-then-length-lt-HEADER_LENGTH : goal.returns-then-length-lt-HEADER_LENGTH
-returns-then-length-lt-HEADER_LENGTH c avps all =
-    let size = c.len-length.ensures in let few = c.if-length-lt-HEADER_LENGTH.true in
-    none_in_short c.args.code avps c.args.message.now (omega (arith, size, few)) all
+returns-then-length-lt-HEADER_LENGTH c avps all = let few = c.if-length-lt-HEADER_LENGTH.true in none_in_short c.args.code avps c.args.message.now (omega (arith, few)) all
 
-pub returns-else-length-lt-HEADER_LENGTH : goal.returns-else-length-lt-HEADER_LENGTH
-returns-else-length-lt-HEADER_LENGTH c avps all = c.first_in.ensures avps (subst (SpellsAll avps) (sym (rest_of c.args.message.now)) all)
+pub returns : goal.returns
+returns c avps all = c.first_in.ensures avps (subst (SpellsAll avps) (sym (rest_of c.args.message.now)) all)
