@@ -1,9 +1,9 @@
 //! What an end of a connection learns of the other.
 
-ghost use Rattle.std.specs.Prelude.{◌⊎◌, ◌≡◌, ◌≢◌, ◌<◌, ◌≤◌, drop, length, option_copied, take, IfSome, IsSome, None, Some};
+ghost use Rattle.std.specs.Prelude.{◌⊎◌, ◌≡◌, ◌≢◌, ◌<◌, ◌≤◌, drop, length, take, IfSome, IsSome, None, Some};
 ghost use Rattle.dia_peer.specs.Life.{IsSuspect};
 ghost use Rattle.dia_c_calls.specs.Held.{peer_in};
-ghost use Rattle.dia_c_calls.specs.PeerValues.{HasSaid, HasSaidBytes, Hears, IsValueNumber, SuspectAs, value_number};
+ghost use Rattle.dia_c_calls.specs.PeerValues.{HasSaid, HasSaidBytes, Hears, IsValueNumber, Says, SaysBytes, SuspectAs, value_of};
 
 use crate::handle::{PeerHandle, hear_in, peer_in};
 use crate::names::copied_whole;
@@ -83,24 +83,24 @@ pub fn peer_value(
     let Some(held) = handle.take(alloc) else {
         return IS_CLOSED;
     };
-    let status = copied_value(peer_in(&held).core.value(value), out, count);
+    let status = copied_value(&peer_in(&held).core, value, out, count);
     handle.put(held);
     status
 }
 
 /// Copies a value out where there is one, and room for it.
-fn copied_value(value: Option<&[u8]>, out: &mut [u8], count: &mut usize) -> u32
+fn copied_value(core: &Core, value: Value, out: &mut [u8], count: &mut usize) -> u32
     ensures ends { (result ≡ DONE) ⊎ (result ≡ NONE) ⊎ (result ≡ NO_ROOM) }
-    ensures done { result ≡ DONE → (option_copied value.entry ≡ Some (take count.new out.new)) × (count.new ≤ length out.new) }
-    ensures none { result ≡ NONE → option_copied value.entry ≡ None }
-    ensures room { result ≡ NO_ROOM → (length out.new < count.new)
-        × IfSome (option_copied value.entry) (λ bytes. length bytes ≡ count.new) }
-    ensures there { result ≡ NO_ROOM → IsSome (option_copied value.entry) }
+    ensures done { result ≡ DONE → Says value core.now (Some (take count.new out.new)) }
+    ensures count { result ≡ DONE → count.new ≤ length out.new }
+    ensures none { result ≡ NONE → Says value core.now None }
+    ensures room { result ≡ NO_ROOM → length out.new < count.new }
+    ensures wanted { result ≡ NO_ROOM → SaysBytes value count.new core.now }
     ensures only { result ≡ NONE → count.new ≡ count.old }
     ensures rest { result ≡ DONE → drop count.new out.new ≡ drop count.new out.old }
     ensures untouched { result ≢ DONE → out.new ≡ out.old }
 {
-    let Some(bytes) = value else {
+    let Some(bytes) = core.value(value) else {
         return NONE;
     };
     *count = bytes.len();
@@ -113,7 +113,7 @@ fn copied_value(value: Option<&[u8]>, out: &mut [u8], count: &mut usize) -> u32
 
 /// The value of a number.
 fn value_of(which: u32) -> Option<Value>
-    ensures some { IfSome result (λ found. (which ≡ value_number found) × IsValueNumber which) }
+    ensures some { IfSome result (λ found. (found ≡ value_of which) × IsValueNumber which) }
     ensures none { result ≡ None → ¬ IsValueNumber which }
 {
     match which {

@@ -14,7 +14,7 @@ use Rattle.dia_peer.specs.Core.{PlainConfig, PlainCore, PlainTaken, Pair, common
 use Rattle.dia_peer.specs.Messages.{Received, Cer, Cea, Refusal, Dwa, Dpa, cea, dwr, after}
 use Rattle.dia_peer.specs.Table.{Happening, Starts, Gets, Ticks, Stops, Breaks, Deed, Sends, Closes, Outcome, nothing, closes, same_bytes, same_ids, starts, opens, answered, accepts, repeated, only_responder, ticks_open, happens_in, happens}
 use Rattle.dia_peer.specs.World.{idle}
-use Rattle.dia_peer.specs.Life.{is_open, suspects, hears, lives, Act, Does, Hears, TakesIds, acts, after_all, IsSilent, AwaitsDwa, SilentSinceTick, ClosesInSilence}
+use Rattle.dia_peer.specs.Life.{is_open, suspects, hears, lives, Act, Does, Hears, TakesIds, Keeps, acts, after_all, IsSilent, AwaitsDwa, SilentSinceTick, ClosesInSilence}
 use Rattle.dia_peer.proofs.Sets.{IsIn, to_in}
 use Rattle.dia_peer.proofs.ResultCode.{never}
 
@@ -151,11 +151,13 @@ module _ (c : PlainCore) where
   by_act all (Does Breaks) hold s = longer all (Does Breaks) tt (hold.1 (sym (framed (after_all c all) Breaks).0 ∙ s))
   by_act all Hears hold s = never s
   by_act all TakesIds hold s = longer all TakesIds tt (hold.1 s)
+  by_act all (Keeps met left) hold s = longer all (Keeps met left) tt (hold.1 s)
 
   act_keeps : (k : PlainCore) (a : Act) → (acts k a).manner ≡ k.manner
   act_keeps k (Does h) = keeps_manner k h
   act_keeps k Hears = refl
   act_keeps k TakesIds = refl
+  act_keeps k (Keeps met left) = refl
 
   one_more : (all : List Act) (a : Act) → Holds all → Holds (all ++ a ∷ [])
   one_more all a hold =

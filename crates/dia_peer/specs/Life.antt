@@ -1,5 +1,5 @@
 -- A watchdog that waits makes a connection suspect before it closes it (RFC 3539 section 3.4.1, the states OKAY and SUSPECT).
-use Rattle.std.specs.Prelude.{◌≡◌, ◌&&◌, Bool, true, false, not, if◌then◌else◌, List, [], ◌∷◌, ◌++◌, Contains, ⊤, IsTrue}
+use Rattle.std.specs.Prelude.{◌≡◌, ℕ, Option, ◌&&◌, Bool, true, false, not, if◌then◌else◌, List, [], ◌∷◌, ◌++◌, Contains, ⊤, IsTrue}
 use Rattle.std.specs.List.{AllByRecursion}
 use Rattle.dia_peer.specs.declared.event.State.{State}
 use Rattle.dia_peer.specs.declared.event.State.TheVariants.{Open}
@@ -49,11 +49,14 @@ pub data Act : Type 0 where
   Does : (h : Happening) → Act
   Hears : Act
   TakesIds : Act
+  -- what it keeps of the other end changes
+  Keeps : (met left : Option (List ℕ)) → Act
 
 abbrev pub acts : PlainCore → Act → PlainCore
 acts c (Does h) = (lives c h).core
 acts c Hears = heard c
 acts c TakesIds = without_next c
+acts c (Keeps met left) = record c { met = met; left = left }
 
 abbrev pub after_all : PlainCore → List Act → PlainCore
 after_all c [] = c

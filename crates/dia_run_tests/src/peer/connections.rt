@@ -152,7 +152,11 @@ pub(super) fn common(alloc: Global, core: &Core) -> Result<String, AllocError> {
 }
 
 /// The state of an end after an event, and what it did, as text.
-pub(super) fn recorded(alloc: Global, core: &Core, outputs: &[Output]) -> Result<String, AllocError> {
+pub(super) fn recorded(
+    alloc: Global,
+    core: &Core,
+    outputs: &[Output],
+) -> Result<String, AllocError> {
     let state = core.state();
     let mut text = format!(in alloc; "{state:?}")?;
     if core.suspect() {

@@ -48,8 +48,9 @@ fn plays(rt: &(impl AllocGlobal + Abort), names: &Names, core: &mut Box<Core>, r
 fn core_of(rt: &(impl AllocGlobal + Abort), call: &str) -> Box<Core> {
     let apps = apps_of(rt, field(call, 2));
     let address = [127, 0, 0, 1];
-    let mut config = config(rt.alloc(), "host.invalid", "invalid", "p", address, &apps)
-        .expect(rt, "memory");
+    let mut config = config(rt.alloc(), "host.invalid", "invalid", "p", address, &apps).expect(
+        rt, "memory",
+    );
     config.hop = 16;
     config.e2e = 32;
     let role = if field(call, 1) == "Initiator" {
@@ -62,12 +63,15 @@ fn core_of(rt: &(impl AllocGlobal + Abort), call: &str) -> Box<Core> {
 }
 
 fn manner_of(words: &str) -> Manner {
-    let has = |name| words.split_ascii_whitespace().any(|word| word == name);
     Manner {
-        relays: has("relays"),
-        life: has("life"),
-        values: has("values"),
+        relays: has(words, "relays"),
+        life: has(words, "life"),
+        values: has(words, "values"),
     }
+}
+
+fn has(words: &str, name: &str) -> bool {
+    words.split_ascii_whitespace().any(|word| word == name)
 }
 
 /// What a core does at a step, as text.
