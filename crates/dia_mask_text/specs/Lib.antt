@@ -1,1 +1,4 @@
 pub mod Lines
+pub mod Names
+pub mod Outcome
+pub mod Runs

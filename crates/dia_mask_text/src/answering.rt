@@ -1,14 +1,13 @@
 //! The lines that were masked, and the one that is under way.
 
-ghost use Rattle.std.specs.Prelude.{◌≡◌, ◌++◌, ◌+◌, ◌∷◌, ℕ, List, [], OnOk, codes, string_bytes};
+ghost use Rattle.std.specs.Prelude.{◌≡◌, ◌≢◌, ◌++◌, ◌+◌, ◌∷◌, ℕ, List, [], IfOk, OnOk, codes, string_bytes};
 ghost use Rattle.hex.specs.Hex.{encode_lower};
+ghost use Rattle.dia_streams.specs.FeedToSink.{Sees};
 ghost use Rattle.dia_streams.specs.Lines.{IsLine, IsLineInput, line_feed, line_number};
-ghost use Rattle.dia_mask.specs.Masked.{Adds, IsMessageMasked};
-ghost use Rattle.dia_mask.specs.Replaced.{Numbering};
+ghost use Rattle.dia_mask.specs.declared.words.Words.{Words};
 ghost use Rattle.dia_mask.specs.Runs.{words_of};
-ghost use Rattle.dia_mask.specs.Texts.{Agrees};
-ghost use Rattle.dia_mask.specs.Words.{Grows};
-ghost use Rattle.dia_mask_text.specs.Lines.{EndsMasked, IsLineMasked, ReadsMasked, why};
+ghost use Rattle.dia_mask.specs.Words.{AreAllNumbers, Grows};
+ghost use Rattle.dia_mask_text.specs.Lines.{Counts, EndsMasked, IsLineMasked, IsMaskedBy, MaskedLine, ReadsMasked, line_text, why};
 
 use crate::spelling::{Unread, spell_line};
 use dia_dict::Book;
@@ -49,11 +48,10 @@ pub(crate) struct Answered {
 }
 
 impl State {
-    pub(crate) fn new<B: Book>(
-        alloc: Global,
-        book: &B,
-        collects: bool,
-    ) -> Result<State, AllocError> {
+    pub(crate) fn new<B: Book>(alloc: Global, book: &B, collects: bool) -> Result<State, AllocError>
+        ensures numbers { IfOk result (λ state. AreAllNumbers (words_of state.run)) }
+        ensures unread { IfOk result (λ state. state.unread ≡ 0) }
+    {
         Ok(State {
             run: Run::new(alloc, book, collects)?,
             unread: 0,
@@ -73,9 +71,10 @@ impl State {
         text: &mut String,
     ) -> Result<(), AllocError>
         ensures grows { OnOk result (Grows (words_of self.old.run) (words_of self.new.run)) }
-        ensures line { OnOk result ((numbers : Numbering) → Agrees (words_of self.new.run) numbers
-            → Adds (IsLineMasked manner.now.choice numbers (B.meaning manner.now.book.now) line.now)
-            (string_bytes text.old) (string_bytes text.new)) }
+        ensures line { OnOk result ((words : Words) → Grows (words_of self.new.run) words
+            → (said : MaskedLine) × IsLineMasked manner.now.choice words (B.meaning manner.now.book.now) line.now said
+            × (string_bytes text.new ≡ string_bytes text.old ++ line_text said)
+            × Sees Counts self.old.unread self.new.unread (said ∷ [])) }
     {
         let spelled = spell_line(alloc, line, space)?;
         match spelled {
@@ -92,9 +91,10 @@ impl State {
         text: &mut String,
     ) -> Result<(), AllocError>
         ensures grows { OnOk result (Grows (words_of self.old.run) (words_of self.new.run)) }
-        ensures message { OnOk result ((numbers : Numbering) → Agrees (words_of self.new.run) numbers
-            → (new : List ℕ) × IsMessageMasked manner.now.choice numbers (B.meaning manner.now.book.now) bytes.now new
+        ensures message { OnOk result ((new : List ℕ)
+            × IsMaskedBy manner.now.choice (words_of self.new.run) (B.meaning manner.now.book.now) bytes.now new
             × (string_bytes text.new ≡ string_bytes text.old ++ (encode_lower new ++ codes "\n"))) }
+        ensures unread { OnOk result (self.new.unread ≡ self.old.unread) }
     {
         self.masked.clear();
         mask_message(
@@ -114,6 +114,7 @@ impl State {
     fn refuse(&mut self, number: u64, unread: Unread, text: &mut String) -> Result<(), AllocError>
         ensures run { self.new.run ≡ self.old.run }
         ensures line { OnOk result (string_bytes text.new ≡ string_bytes text.old ++ (why unread ++ codes "\n")) }
+        ensures unread { OnOk result (self.new.unread ≢ 0) }
     {
         if self.unread == 0 {
             self.first_unread = number;
@@ -124,7 +125,11 @@ impl State {
 }
 
 impl Answered {
-    pub(crate) fn new(alloc: Global) -> Answered {
+    pub(crate) fn new(alloc: Global) -> Answered
+        ensures line { IsLineInput result.line [] }
+        ensures count { result.count ≡ 0 }
+        ensures text { string_bytes result.text ≡ [] }
+    {
         Answered {
             line: Input::Bytes(Vec::new(alloc)),
             count: 0,
@@ -142,9 +147,9 @@ impl Answered {
         piece: &[u8],
     ) -> Result<(), AllocError>
         ensures grows { OnOk result (Grows (words_of state.old.run) (words_of state.new.run)) }
-        ensures lines { OnOk result ((numbers : Numbering) → Agrees (words_of state.new.run) numbers
-            → (texts : List (List ℕ)) × ReadsMasked manner.now.choice numbers (B.meaning manner.now.book.now)
-            self.old self.new piece.now texts) }
+        ensures lines { OnOk result ((words : Words) → Grows (words_of state.new.run) words
+            → (lines : List MaskedLine) × ReadsMasked manner.now.choice words (B.meaning manner.now.book.now)
+            self.old self.new state.old.unread state.new.unread piece.now lines) }
     {
         let mut rest = piece;
         while let Some((line, following)) = split_line(rest) {
@@ -163,9 +168,9 @@ impl Answered {
         state: &mut State,
     ) -> Result<(), AllocError>
         ensures grows { OnOk result (Grows (words_of state.old.run) (words_of state.new.run)) }
-        ensures lines { OnOk result ((numbers : Numbering) → Agrees (words_of state.new.run) numbers
-            → (texts : List (List ℕ)) × EndsMasked manner.now.choice numbers (B.meaning manner.now.book.now)
-            self.old self.new texts) }
+        ensures lines { OnOk result ((words : Words) → Grows (words_of state.new.run) words
+            → (lines : List MaskedLine) × EndsMasked manner.now.choice words (B.meaning manner.now.book.now)
+            self.old self.new state.old.unread state.new.unread lines) }
     {
         if is_empty(&self.line) {
             return Ok(());
@@ -184,9 +189,9 @@ impl Answered {
     ) -> Result<(), AllocError>
         requires { IsLine bytes.now }
         ensures grows { OnOk result (Grows (words_of state.old.run) (words_of state.new.run)) }
-        ensures lines { OnOk result ((numbers : Numbering) → Agrees (words_of state.new.run) numbers
-            → (texts : List (List ℕ)) × ReadsMasked manner.now.choice numbers (B.meaning manner.now.book.now)
-            self.old self.new (bytes.now ++ line_feed ∷ []) texts) }
+        ensures lines { OnOk result ((words : Words) → Grows (words_of state.new.run) words
+            → (lines : List MaskedLine) × ReadsMasked manner.now.choice words (B.meaning manner.now.book.now)
+            self.old self.new state.old.unread state.new.unread (bytes.now ++ line_feed ∷ []) lines) }
     {
         extend(&mut self.line, bytes)?;
         self.answer(alloc, manner, state)?;
@@ -201,9 +206,10 @@ impl Answered {
         state: &mut State,
     ) -> Result<(), AllocError>
         ensures grows { OnOk result (Grows (words_of state.old.run) (words_of state.new.run)) }
-        ensures line { OnOk result ((numbers : Numbering) → Agrees (words_of state.new.run) numbers
-            → Adds (IsLineMasked manner.now.choice numbers (B.meaning manner.now.book.now) self.old.line)
-            (string_bytes self.old.text) (string_bytes self.new.text)) }
+        ensures line { OnOk result ((words : Words) → Grows (words_of state.new.run) words
+            → (said : MaskedLine) × IsLineMasked manner.now.choice words (B.meaning manner.now.book.now) self.old.line said
+            × (string_bytes self.new.text ≡ string_bytes self.old.text ++ line_text said)
+            × Sees Counts state.old.unread state.new.unread (said ∷ [])) }
         ensures begun { OnOk result (IsLineInput self.new.line []) }
         ensures count { OnOk result (self.new.count ≡ line_number (self.old.count + 1)) }
     {

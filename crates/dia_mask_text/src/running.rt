@@ -1,14 +1,23 @@
 //! The command over the lines of a text.
 
-ghost use Rattle.std.specs.Prelude.{◌≡◌, ◌↔◌, ◌⊎◌, Err, IsTrue};
+ghost use Rattle.std.specs.Prelude.{◌≡◌, ◌≢◌, ◌↔◌, ◌⊎◌, ◌+◌, ◌==◌, if◌then◌else◌, ℕ, List, [], Option, Ok, Err, IfOk, IsErr, IsTrue, OnOk, string_bytes, false, true};
+ghost use Rattle.std.specs.Io.KnownBytes.{Appends, IsAtEnd};
+ghost use Rattle.dia_io.specs.Writing.{AppendsFront};
 ghost use Rattle.dia_streams.specs.declared.fault.LinesFault.TheVariants.{Device};
+ghost use Rattle.dia_report.specs.Refusals.{RecordsOf};
+ghost use Rattle.dia_mask.specs.Runs.{words_of};
+ghost use Rattle.dia_mask.specs.Words.{AreAllNumbers};
+ghost use Rattle.dia_mask_text.specs.Names.{lists};
+ghost use Rattle.dia_mask_text.specs.Outcome.{IsRefusedName, RefusesDictionary, name_line};
+ghost use Rattle.dia_mask_text.specs.Runs.{AllMasked, AreAllMasked, FrontMasked, HasRead, IsMaskBegun, IsMaskOfAll, IsMaskPut};
+ghost use Rattle.dia_mask_text.specs.Runs.{IsRefusalBegun, IsRefusalPut};
 
 use crate::answering::{Answered, Manner, State};
 use crate::choosing::{BadName, Why, choice_of};
 use crate::options::Options;
 use crate::summary::push_summary;
 use dia_dict::Book;
-use dia_io::{Exit, Feed, Input, Sink, put_all};
+use dia_io::{Exit, Failed, Feed, Input, Sink, put_all};
 use dia_report::{Refused, Report, Reported};
 use dia_run::{answer_of, read_dictionary};
 use dia_streams::LinesFault;
@@ -35,12 +44,19 @@ pub fn mask<F: Feed, S: Sink>(
 ) -> Result<Reported, LinesFault>
     requires sound_feed { ¬ IsTrue (F.has_failed feed.old) }
     requires sound_sink { ¬ IsTrue (S.has_failed sink.old) }
+    ensures exact { IfOk result (λ reported. IsMaskPut (lists options.now) dictionary.now (F.remaining feed.old)
+        (F.remaining feed.new) (S.written sink.old) (S.written sink.new) reported.exit) }
+    ensures pieces { IfOk result (λ reported. IsMaskOfAll (lists options.now) dictionary.now (F.remaining feed.old)
+        (S.written sink.old) (S.written sink.new) reported.exit) }
+    ensures all { IfOk result (λ reported. reported.exit ≢ Exit.Bad → IsAtEnd (F.remaining feed.new)) }
+    ensures front { IsErr result → IsMaskBegun (lists options.now) dictionary.now (F.remaining feed.old)
+        (F.remaining feed.new) (S.written sink.old) (S.written sink.new) }
     ensures device { (result ≡ Err Device)
         ↔ (IsTrue (F.has_failed feed.new) ⊎ IsTrue (S.has_failed sink.new)) }
 {
     let first = match read_dictionary(alloc, 1, dictionary) {
         Ok(read) => read,
-        Err(refused) => return refuse(alloc, refused, sink),
+        Err(refused) => return refuse(alloc, options, dictionary, refused, sink),
     };
     match choice_of(alloc, &first.book, options)? {
         Ok(choice) => {
@@ -48,9 +64,10 @@ pub fn mask<F: Feed, S: Sink>(
                 book: &first.book,
                 choice,
             };
-            mask_all(alloc, &manner, options.json, notes, feed, sink)
+            let mut state = State::new(alloc, manner.book, options.json)?;
+            mask_all(alloc, &manner, &mut state, options.json, notes, feed, sink)
         }
-        Err(bad) => refuse_name(alloc, bad, sink),
+        Err(bad) => refuse_name(alloc, options, dictionary, bad, sink),
     }
 }
 
@@ -58,6 +75,7 @@ pub fn mask<F: Feed, S: Sink>(
 fn mask_all<B: Book, F: Feed, S: Sink>(
     alloc: Global,
     manner: &Manner<'_, B>,
+    state: &mut State,
     json: bool,
     notes: &mut String,
     feed: &mut F,
@@ -65,21 +83,30 @@ fn mask_all<B: Book, F: Feed, S: Sink>(
 ) -> Result<Reported, LinesFault>
     requires sound_feed { ¬ IsTrue (F.has_failed feed.old) }
     requires sound_sink { ¬ IsTrue (S.has_failed sink.old) }
+    requires numbers { AreAllNumbers (words_of state.old.run) }
+    requires none_yet { state.old.unread ≡ 0 }
+    ensures exact { IfOk result (λ reported. AreAllMasked manner.now.choice (B.meaning manner.now.book.now)
+        (F.remaining feed.old) (F.remaining feed.new) (S.written sink.old) (S.written sink.new) reported.exit) }
+    ensures all { IfOk result (λ reported. IsAtEnd (F.remaining feed.new)) }
+    ensures front { IsErr result → FrontMasked manner.now.choice (B.meaning manner.now.book.now)
+        (F.remaining feed.old) (F.remaining feed.new) (S.written sink.old) (S.written sink.new) }
     ensures device { (result ≡ Err Device)
         ↔ (IsTrue (F.has_failed feed.new) ⊎ IsTrue (S.has_failed sink.new)) }
 {
-    let mut state = State::new(alloc, manner.book, json)?;
-    let count = mask_lines(alloc, manner, &mut state, feed, sink)?;
-    if push_summary(alloc, notes, manner, &state, count, json).is_err() {
+    let count = mask_lines(alloc, manner, state, feed, sink)?;
+    if push_summary(alloc, notes, manner, state, count, json).is_err() {
         notes.clear();
     }
-    let exit = if state.unread == 0 {
-        Exit::Yes
-    } else {
-        Exit::No
-    };
+    let exit = exit_by(state.unread);
     let report = Report::Done;
     Ok(Reported { exit, report })
+}
+
+/// Yes where each line spells bytes.
+fn exit_by(unread: u64) -> Exit
+    ensures { result ≡ (if unread == 0 then Exit.Yes else Exit.No) }
+{
+    if unread == 0 { Exit::Yes } else { Exit::No }
 }
 
 /// Puts the answer for each line of a feed, and answers how many there were.
@@ -92,6 +119,13 @@ fn mask_lines<B: Book, F: Feed, S: Sink>(
 ) -> Result<u64, LinesFault>
     requires sound_feed { ¬ IsTrue (F.has_failed feed.old) }
     requires sound_sink { ¬ IsTrue (S.has_failed sink.old) }
+    requires numbers { AreAllNumbers (words_of state.old.run) }
+    requires none_yet { state.old.unread ≡ 0 }
+    ensures masked { IfOk result (λ _. AllMasked manner.now.choice (B.meaning manner.now.book.now)
+        (F.remaining feed.old) (F.remaining feed.new) (S.written sink.old) (S.written sink.new) state.new.unread) }
+    ensures all { IfOk result (λ _. IsAtEnd (F.remaining feed.new)) }
+    ensures front { IsErr result → FrontMasked manner.now.choice (B.meaning manner.now.book.now)
+        (F.remaining feed.old) (F.remaining feed.new) (S.written sink.old) (S.written sink.new) }
     ensures device { (result ≡ Err Device)
         ↔ (IsTrue (F.has_failed feed.new) ⊎ IsTrue (S.has_failed sink.new)) }
 {
@@ -119,27 +153,68 @@ fn mask_piece<B: Book, F: Feed, S: Sink>(
 ) -> Result<bool, LinesFault>
     requires sound_feed { ¬ IsTrue (F.has_failed feed.old) }
     requires sound_sink { ¬ IsTrue (S.has_failed sink.old) }
+    ensures more { (fed put : Option (List ℕ)) (n : ℕ) → result ≡ Ok true
+        → HasRead manner.now.choice (B.meaning manner.now.book.now) fed (F.remaining feed.old)
+        put (S.written sink.old) state.old answered.old n
+        → HasRead manner.now.choice (B.meaning manner.now.book.now) fed (F.remaining feed.new)
+        put (S.written sink.new) state.new answered.new (n + 1) }
+    ensures end { (fed put : Option (List ℕ)) (n : ℕ) → result ≡ Ok false
+        → HasRead manner.now.choice (B.meaning manner.now.book.now) fed (F.remaining feed.old)
+        put (S.written sink.old) state.old answered.old n
+        → AllMasked manner.now.choice (B.meaning manner.now.book.now) fed (F.remaining feed.new)
+        put (S.written sink.new) state.new.unread }
+    ensures all { result ≡ Ok false → IsAtEnd (F.remaining feed.new) }
+    ensures front { (fed put : Option (List ℕ)) (n : ℕ) → IsErr result
+        → HasRead manner.now.choice (B.meaning manner.now.book.now) fed (F.remaining feed.old)
+        put (S.written sink.old) state.old answered.old n
+        → FrontMasked manner.now.choice (B.meaning manner.now.book.now) fed (F.remaining feed.new)
+        put (S.written sink.new) }
     ensures device { (result ≡ Err Device)
         ↔ (IsTrue (F.has_failed feed.new) ⊎ IsTrue (S.has_failed sink.new)) }
 {
     let count = feed.get(piece)?;
     if count == 0 {
         answered.end(alloc, manner, state)?;
+        put_answers(answered, sink)?;
+        Ok(false)
     } else {
         answered.read(alloc, manner, state, &piece[..count])?;
+        put_answers(answered, sink)?;
+        Ok(true)
     }
+}
+
+/// Puts the answers that weren't put yet.
+fn put_answers<S: Sink>(answered: &mut Answered, sink: &mut S) -> Result<(), Failed>
+    requires { ¬ IsTrue (S.has_failed sink.old) }
+    ensures put { OnOk result
+        (Appends (S.written sink.old) (S.written sink.new) (string_bytes answered.old.text)) }
+    ensures front { AppendsFront (S.written sink.old) (S.written sink.new) (string_bytes answered.old.text) }
+    ensures failed { IsErr result ↔ IsTrue (S.has_failed sink.new) }
+    ensures nothing { OnOk result (string_bytes answered.new.text ≡ []) }
+    ensures line { answered.new.line ≡ answered.old.line }
+    ensures count { answered.new.count ≡ answered.old.count }
+{
     put_all(sink, answered.text.as_bytes())?;
     answered.text.clear();
-    Ok(count > 0)
+    Ok(())
 }
 
 /// Puts the line of a name that is refused.
 fn refuse_name<S: Sink>(
     alloc: Global,
+    options: &Options<'_>,
+    dictionary: &Input,
     bad: BadName<'_>,
     sink: &mut S,
 ) -> Result<Reported, LinesFault>
-    requires { ¬ IsTrue (S.has_failed sink.old) }
+    requires sound { ¬ IsTrue (S.has_failed sink.old) }
+    requires named { IsRefusedName (lists options.now) dictionary.now bad }
+    ensures put { IfOk result (λ reported. IsRefusalPut (lists options.now) dictionary.now
+        (S.written sink.old) (S.written sink.new) reported.exit) }
+    ensures exit { IfOk result (λ reported. reported.exit ≡ Exit.Bad) }
+    ensures front { IsErr result → IsRefusalBegun (lists options.now) dictionary.now
+        (S.written sink.old) (S.written sink.new) }
     ensures device { (result ≡ Err Device) ↔ IsTrue (S.has_failed sink.new) }
 {
     let text = line_of(alloc, bad)?;
@@ -149,7 +224,9 @@ fn refuse_name<S: Sink>(
     Ok(Reported { exit, report })
 }
 
-fn line_of(alloc: Global, bad: BadName<'_>) -> Result<String, AllocError> {
+fn line_of(alloc: Global, bad: BadName<'_>) -> Result<String, AllocError>
+    ensures { IfOk result (λ text. string_bytes text ≡ name_line bad.entry.name.now bad.entry.why) }
+{
     let name = bad.name;
     match bad.why {
         Why::Missing => format!(in alloc; "mask: no AVP {name}\n"),
@@ -159,8 +236,20 @@ fn line_of(alloc: Global, bad: BadName<'_>) -> Result<String, AllocError> {
 }
 
 /// Puts the line of a dictionary that is refused.
-fn refuse<S: Sink>(alloc: Global, refused: Refused, sink: &mut S) -> Result<Reported, LinesFault>
-    requires { ¬ IsTrue (S.has_failed sink.old) }
+fn refuse<S: Sink>(
+    alloc: Global,
+    options: &Options<'_>,
+    dictionary: &Input,
+    refused: Refused,
+    sink: &mut S,
+) -> Result<Reported, LinesFault>
+    requires sound { ¬ IsTrue (S.has_failed sink.old) }
+    requires records { RecordsOf (RefusesDictionary dictionary.now) refused }
+    ensures put { IfOk result (λ reported. IsRefusalPut (lists options.now) dictionary.now
+        (S.written sink.old) (S.written sink.new) reported.exit) }
+    ensures exit { IfOk result (λ reported. reported.exit ≡ Exit.Bad) }
+    ensures front { IsErr result → IsRefusalBegun (lists options.now) dictionary.now
+        (S.written sink.old) (S.written sink.new) }
     ensures device { (result ≡ Err Device) ↔ IsTrue (S.has_failed sink.new) }
 {
     let answered = answer_of(alloc, Err(refused))?;
