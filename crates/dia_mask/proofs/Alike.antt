@@ -13,7 +13,8 @@ use Rattle.dia_data.specs.Leaf.{IsLeafAnswer}
 use Rattle.dia_book.specs.Dictionary.{Dictionary, DictEntry, PlainDefinition}
 use Rattle.dia_valid.specs.Valid.{group_at, known}
 use Rattle.dia_mask.specs.declared.choice.Choice.{Choice}
-use Rattle.dia_mask.specs.Replaced.{IsReplaced, IsSameSaid, Numbering}
+use Rattle.dia_mask.proofs.SaidAgain.{new_said}
+use Rattle.dia_mask.specs.Replaced.{IsSameSaid, Numbering}
 use Rattle.dia_mask.specs.Masked.{IsAround, IsLeafMasked, IsMasked, IsNoAvpMasked, format_at, group, head, is_masked, leaf, no_avp, short, zeros}
 
 -- the AVP with other data
@@ -150,14 +151,6 @@ replaced_begins v level rest lead padding other pad more new (front, s, parts) a
 
 -- ---- masked levels
 
-same_said : (format : Option PlainFormat) (bytes : List ℕ) → IsSameSaid format bytes bytes
-same_said None bytes = refl
-same_said (Some format) bytes = (refl, λ says. (λ x. x, λ x. x))
-
-replaced_said : (numbers : Numbering) (format : Option PlainFormat) (bytes other : List ℕ) → IsReplaced numbers format bytes other → IsSameSaid format bytes other
-replaced_said numbers format bytes other (new, is_new, inl (same, is)) = subst (IsSameSaid format bytes) (sym is) same
-replaced_said numbers format bytes other (new, is_new, inr (differs, is)) = subst (IsSameSaid format bytes) (sym is) (same_said format bytes)
-
 said_size : (format : Option PlainFormat) (bytes other : List ℕ) → IsSameSaid format bytes other → length other ≡ length bytes
 said_size None bytes other size = size
 said_size (Some format) bytes other h = h.0
@@ -180,9 +173,9 @@ leaf_alike numbers d v padding new true (other, replaced, is) = record {
   other = other;
   pad = zeros (length padding);
   parts = is;
-  size = said_size (format_at d v) v.bytes other (replaced_said numbers (format_at d v) v.bytes other replaced);
+  size = said_size (format_at d v) v.bytes other (new_said numbers (format_at d v) v.bytes other replaced);
   pad_size = length-replicate {A = ℕ} (length padding) 0;
-  says = said_alike d v other (replaced_said numbers (format_at d v) v.bytes other replaced);
+  says = said_alike d v other (new_said numbers (format_at d v) v.bytes other replaced);
 }
 
 pub masked_alike : (choice : Choice) (numbers : Numbering) (d : Dictionary) (level new : List ℕ) → IsMasked choice numbers d level new → AreAlike d level new

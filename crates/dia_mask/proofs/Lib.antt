@@ -14,3 +14,4 @@ pub mod Replacing
 pub mod SaidAgain
 pub mod SameLengths
 pub mod Spelled
+pub mod TextsAgain

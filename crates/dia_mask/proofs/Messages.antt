@@ -8,7 +8,7 @@ use Rattle.dia_data.specs.Plain.{PlainFormat}
 use Rattle.dia_book.specs.Dictionary.{Dictionary, DictEntry, PlainDefinition, entry_of, group_place}
 use Rattle.dia_valid.specs.Valid.{group_at}
 use Rattle.dia_mask.specs.declared.choice.Choice.{Choice}
-use Rattle.dia_mask.specs.Replaced.{IsReplaced, Numbering}
+use Rattle.dia_mask.specs.Replaced.{IsNewData, Numbering}
 use Rattle.dia_mask.specs.Choosing.{masks}
 use Rattle.dia_mask.specs.Masked.{Adds, IsLeafMasked, IsMasked, IsMessageMasked, IsNoAvpMasked, bad_header, body_of, head, is_masked, message, no_header, short, zeros}
 
@@ -51,7 +51,7 @@ pub masked_as : (choice : Choice) (d : Dictionary) (v : PlainAvp) (key : Key) (e
 masked_as choice d v key entry b t is known same answer = sym (is ∙ ap (masks choice) (known ∙ ap (entry_of d) same)) ∙ answer
 
 pub leaf_put : (numbers : Numbering) (masked : Bool) (format : Option PlainFormat) (bytes padding old new : List ℕ) → masked ≡ true
-    → (other : List ℕ) × IsReplaced numbers format bytes other × (new ≡ (old ++ other) ++ zeros (length padding)) → Adds (IsLeafMasked numbers masked format bytes padding) old new
+    → (other : List ℕ) × IsNewData numbers format bytes other × (new ≡ (old ++ other) ++ zeros (length padding)) → Adds (IsLeafMasked numbers masked format bytes padding) old new
 leaf_put numbers masked format bytes padding old new is (other, replaced, added) = (
   other ++ zeros (length padding),
   subst (λ (b : Bool). IsLeafMasked numbers b format bytes padding (other ++ zeros (length padding))) (sym is) (other, replaced, refl),

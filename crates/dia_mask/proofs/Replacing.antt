@@ -1,5 +1,5 @@
 -- Data that are replaced by their format.
-use Rattle.std.proofs.Common.{◌≡◌, ◌≢◌, ℕ, ◌-◌, List, [], ◌∷◌, ◌++◌, length, take, drop, All, Option, Some, None, refl, sym, ap, subst, ◌∙◌, append_assoc, append-nil, inl, inr, ⊎_elim, arith, min, slice_index_or, Bool, false, IsTrue, true≢false, ◌↔◌, IsUtf8, IsAscii}
+use Rattle.std.proofs.Common.{◌≡◌, ◌≢◌, ℕ, ◌-◌, List, [], ◌∷◌, ◌++◌, length, take, drop, All, Some, None, refl, sym, ap, subst, ◌∙◌, append_assoc, append-nil, inl, ⊎_elim, arith, min, slice_index_or, IsUtf8, IsAscii}
 use Rattle.std.proofs.lemmas.List.{take_all, drop_all, length-drop, get_or_past}
 use Rattle.std.proofs.lemmas.Bool.{cases_lt}
 use Rattle.std.proofs.lemmas.List.Elements.{All-drop}
@@ -10,7 +10,7 @@ use Rattle.dia_mask.specs.declared.texts.Masking.{Masking}
 use Rattle.dia_mask.specs.declared.words.Words.{Words}
 use Rattle.dia_mask.specs.declared.ways.Way.{Way}
 use Rattle.dia_mask.specs.declared.ways.Way.TheVariants as ways
-use Rattle.dia_mask.specs.Replaced.{IsAccepted, IsBroken, IsByWay, IsNewData, IsReplaced, IsRule, IsSameSaid, IsText, IsTextWay, Numbering, broken, new_bytes, new_utf8, text_start, way, whole}
+use Rattle.dia_mask.specs.Replaced.{IsAccepted, IsBroken, IsByWay, IsNewData, IsRule, IsText, IsTextWay, Numbering, broken, new_bytes, new_utf8, text_start, way, whole}
 use Rattle.dia_mask.specs.Texts.{Agrees, Puts}
 use Rattle.dia_mask.specs.Words.{Grows}
 use Rattle.dia_mask.proofs.Characters.{no_more}
@@ -41,14 +41,14 @@ puts_after P old mid new front f same pushed grows text holds = (
 
 -- ---- texts
 
-graphic_ascii : (bytes : List ℕ) → All IsGraphic bytes → IsAscii bytes
+pub graphic_ascii : (bytes : List ℕ) → All IsGraphic bytes → IsAscii bytes
 graphic_ascii bytes all i =
     ⊎_elim
     (λ within. let g : IsGraphic (slice_index_or bytes i 0) = all i 0 within in omega (arith, g.1))
     (λ past. let e : slice_index_or bytes i 0 ≡ 0 = get_or_past bytes i 0 past in omega (arith, e))
     (cases_lt i (length bytes))
 
-graphic_utf8 : (n : ℕ) (bytes : List ℕ) → All IsGraphic bytes → IsUtf8 (drop n bytes)
+pub graphic_utf8 : (n : ℕ) (bytes : List ℕ) → All IsGraphic bytes → IsUtf8 (drop n bytes)
 graphic_utf8 n bytes all = IsUtf8-from_ascii (drop n bytes) (graphic_ascii (drop n bytes) (All-drop IsGraphic n bytes all))
 
 pub accepted_utf8 : (f : PlainFormat) (bytes : List ℕ) → IsTextWay f → IsLeaf f bytes → IsUtf8 (drop (text_start f bytes) bytes)
@@ -132,11 +132,3 @@ puts_address old mid new bytes rest n is is_rest same pushed (grows, puts) =
                 ∙ ap (λ (t : List ℕ). old.data.items ++ (take 2 bytes ++ t)) (p.1 ∙ ap (new_bytes numbers) after),
           ),
     )
-
--- ---- data of which the format would say otherwise
-
-pub left_again : (numbers : Numbering) (f : Option PlainFormat) (bytes more before data_now seen cleared now : List ℕ) (same : Bool) → IsNewData numbers f bytes more → before ≡ []
-    → data_now ≡ before ++ more → seen ≡ data_now → (IsTrue same ↔ IsSameSaid f bytes seen) → same ≡ false → cleared ≡ [] → now ≡ cleared ++ bytes → IsReplaced numbers f bytes now
-left_again numbers f bytes more before data_now seen cleared now same new empty is_data is_seen tested fails empty' is =
-    let all : seen ≡ more = is_seen ∙ is_data ∙ ap (λ (t : List ℕ). t ++ more) empty in
-    (more, new, inr ((λ s. true≢false (sym (tested.1 (subst (IsSameSaid f bytes) (sym all) s)) ∙ fails)), is ∙ ap (λ (t : List ℕ). t ++ bytes) empty'))

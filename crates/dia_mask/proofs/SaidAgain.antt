@@ -1,14 +1,16 @@
 -- New data of which a format says what it says of those that they replace.
 use Rattle.std.proofs.Common.{◌≡◌, ℕ, ◌≤◌, List, ◌++◌, length, take, drop, Option, Some, None, refl, sym, ap, subst, ◌∙◌, arith, inl, inr}
 use Rattle.std.specs.Prelude.{◌↔◌}
-use Rattle.std.proofs.lemmas.List.{length-append, length-drop, length-take, take_at}
+use Rattle.std.proofs.lemmas.List.{length-append, length-drop, length-replicate, length-take, take_at}
 use Rattle.dia_data.specs.Number.{number}
 use Rattle.dia_data.specs.Leaf.{IsAddress}
 use Rattle.dia_data.specs.Plain.{AnyName, PlainFormat, AnyBytes, FourBytes, EightBytes, Grouped, Address, Utf8String, DiameterIdentity, DiameterUri, Enumerated, OctetString, IpFilterRule, QosFilterRule}
 use Rattle.dia_data.proofs.Addresses.{address_from_long, long_from_address}
 use Rattle.dia_data.proofs.Leaves.{IsSame, IsLeafAnswer-same}
-use Rattle.dia_mask.specs.Replaced.{IsByWay, IsNewData, IsReplaced, IsSameSaid, IsTextWay, NeverText, Numbering, new_bytes, way}
-use Rattle.dia_mask.proofs.SameLengths.{bytes_size, rule_size}
+use Rattle.dia_mask.specs.Replaced.{IsByWay, IsNewData, IsSameSaid, IsText, IsTextWay, Numbering, new_bytes, new_utf8, text_start, way}
+use Rattle.dia_mask.proofs.Replacing.{accepted_utf8}
+use Rattle.dia_mask.proofs.SameLengths.{bytes_size, rule_size, utf8_size}
+use Rattle.dia_mask.proofs.TextsAgain.{identity_again, uri_again, utf8_again}
 
 -- ---- formats
 
@@ -56,29 +58,36 @@ module _ (numbers : Numbering) (bytes new : List ℕ) where
         long_again new bytes (sym (address_size is)) (sym (address_front is long)) a,
   )
 
-  pub said_again : (f : PlainFormat) → IsByWay numbers f (way f) bytes new → ¬ IsTextWay f → IsSameSaid (Some f) bytes new
-  said_again (AnyBytes OctetString) is no_text = any OctetString bytes new (new_size is)
-  said_again (AnyBytes IpFilterRule) rule no_text = any IpFilterRule bytes new (rule_size numbers bytes new rule)
-  said_again (AnyBytes QosFilterRule) rule no_text = any QosFilterRule bytes new (rule_size numbers bytes new rule)
-  said_again (FourBytes name) is no_text =
+  text_size : (f : PlainFormat) (refused : ℕ) → IsTextWay f → IsText numbers f refused bytes new → length new ≡ length bytes
+  text_size f refused text (inl (leaf, is)) =
+      let at = text_start f bytes in
+      ap length is ∙ length-append (take at bytes) (new_utf8 numbers (drop at bytes))
+      ∙ omega (arith, utf8_size numbers (drop at bytes) (accepted_utf8 f bytes text leaf), length-take at bytes, length-drop at bytes)
+  text_size f refused text (inr (no_leaf, is)) = ap length is ∙ length-replicate (length bytes) refused
+
+  pub said_again : (f : PlainFormat) → IsByWay numbers f (way f) bytes new → IsSameSaid (Some f) bytes new
+  said_again (AnyBytes OctetString) is = any OctetString bytes new (new_size is)
+  said_again (AnyBytes IpFilterRule) rule = any IpFilterRule bytes new (rule_size numbers bytes new rule)
+  said_again (AnyBytes QosFilterRule) rule = any QosFilterRule bytes new (rule_size numbers bytes new rule)
+  said_again (FourBytes name) is =
       let size = new_size is in said (FourBytes name) bytes new size (record { leaf = (λ e. size ∙ e, λ e. sym size ∙ e); fits = (λ e. size ∙ e, λ e. sym size ∙ e) })
-  said_again (EightBytes name) is no_text =
+  said_again (EightBytes name) is =
       let size = new_size is in said (EightBytes name) bytes new size (record { leaf = (λ e. size ∙ e, λ e. sym size ∙ e); fits = (λ e. size ∙ e, λ e. sym size ∙ e) })
-  said_again Grouped is no_text = same_data Grouped bytes new is
-  said_again Address is no_text = said Address bytes new (address_size is) (record { leaf = address_too is; fits = address_too is })
-  said_again Utf8String h no_text = absurd (no_text (255, refl))
-  said_again DiameterIdentity h no_text = absurd (no_text (32, refl))
-  said_again DiameterUri h no_text = absurd (no_text (120, refl))
-  said_again (Enumerated None) is no_text =
+  said_again Grouped is = same_data Grouped bytes new is
+  said_again Address is = said Address bytes new (address_size is) (record { leaf = address_too is; fits = address_too is })
+  said_again Utf8String text = said Utf8String bytes new (text_size Utf8String 255 (255, refl) text) (record { leaf = utf8_again numbers bytes new text; fits = (λ x. x, λ x. x) })
+  said_again DiameterIdentity text =
+      said DiameterIdentity bytes new (text_size DiameterIdentity 32 (32, refl) text) (record { leaf = identity_again numbers bytes new text; fits = (λ x. x, λ x. x) })
+  said_again DiameterUri text = said DiameterUri bytes new (text_size DiameterUri 120 (120, refl) text) (record { leaf = uri_again numbers bytes new text; fits = (λ x. x, λ x. x) })
+  said_again (Enumerated None) is =
       let size = new_size is in
       said (Enumerated None) bytes new size (record { leaf = (λ h. (size ∙ h.0, tt), λ h. (sym size ∙ h.0, tt)); fits = (λ e. size ∙ e, λ e. sym size ∙ e) })
-  said_again (Enumerated (Some ranges)) is no_text = same_data (Enumerated (Some ranges)) bytes new is
+  said_again (Enumerated (Some ranges)) is = same_data (Enumerated (Some ranges)) bytes new is
 
   pub unknown_again : new ≡ new_bytes numbers bytes → IsSameSaid None bytes new
   unknown_again is = new_size is
 
--- no data are left
-pub never_left : (numbers : Numbering) (f : Option PlainFormat) (bytes other : List ℕ) → NeverText f → IsReplaced numbers f bytes other → IsNewData numbers f bytes other
-never_left numbers f bytes other no_text (new, is_new, inl (same, is)) = subst (IsNewData numbers f bytes) (sym is) is_new
-never_left numbers None bytes other no_text (new, is_new, inr (differs, is)) = absurd (differs (unknown_again numbers bytes new is_new))
-never_left numbers (Some f) bytes other no_text (new, is_new, inr (differs, is)) = absurd (differs (said_again numbers bytes new f is_new no_text))
+-- a format says the same of new data, where there is a format
+pub new_said : (numbers : Numbering) (f : Option PlainFormat) (bytes new : List ℕ) → IsNewData numbers f bytes new → IsSameSaid f bytes new
+new_said numbers None bytes new is = unknown_again numbers bytes new is
+new_said numbers (Some f) bytes new is = said_again numbers bytes new f is

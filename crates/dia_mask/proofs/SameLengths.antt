@@ -89,7 +89,7 @@ word_sum kinds n = reversed_size (from_last (reverse kinds) n) ∙ from_last_siz
 
 -- ---- texts
 
-after_kind : (numbers : Numbering) (word rest : List ℕ) (c : ℕ) (k : Kind) → kind_of c ≡ Some k → new_text numbers word (c ∷ rest) ≡ new_text numbers (word ++ c ∷ []) rest
+pub after_kind : (numbers : Numbering) (word rest : List ℕ) (c : ℕ) (k : Kind) → kind_of c ≡ Some k → new_text numbers word (c ∷ rest) ≡ new_text numbers (word ++ c ∷ []) rest
 after_kind numbers word rest c k is = ap (λ (o : Option Kind). if is_some o then new_text numbers (word ++ c ∷ []) rest else new_word numbers word ++ c ∷ new_text numbers [] rest) is
 
 -- a word is as long as its kinds say

@@ -9,7 +9,7 @@ use Rattle.dia_book.specs.Dictionary.{Dictionary, PlainDefinition, entry_of}
 use Rattle.dia_valid.specs.Valid.{group_at, known}
 use Rattle.dia_mask.specs.declared.choice.Choice.{Choice}
 use Rattle.dia_mask.specs.Choosing.{masks}
-use Rattle.dia_mask.specs.Replaced.{IsReplaced, Numbering}
+use Rattle.dia_mask.specs.Replaced.{IsNewData, Numbering}
 
 -- an AVP is masked
 abbrev pub is_masked : Choice → Dictionary → PlainAvp → Bool
@@ -32,7 +32,7 @@ format_at d v = option_map (λ e. e.format) (known d (key_of v))
 -- the data and the padding of an AVP that is no known group stay, or others take the place of the data, and the padding is zero
 abbrev pub IsLeafMasked : Numbering → Bool → Option PlainFormat → (bytes padding new : List ℕ) → Type 0
 IsLeafMasked numbers false format bytes padding new = new ≡ bytes ++ padding
-IsLeafMasked numbers true format bytes padding new = (other : List ℕ) × IsReplaced numbers format bytes other × (new ≡ other ++ zeros (length padding))
+IsLeafMasked numbers true format bytes padding new = (other : List ℕ) × IsNewData numbers format bytes other × (new ≡ other ++ zeros (length padding))
 
 -- where no AVP begins: 8 bytes stay, and zero follows; of fewer bytes all are zero
 pub data IsNoAvpMasked (level new : List ℕ) : Type 0 where

@@ -1,5 +1,5 @@
 -- The data that takes the place of an AVP's, by the numbers of its words (our profile).
-use Rattle.std.specs.Prelude.{◌≡◌, ◌⊎◌, ◌↔◌, ℕ, ◌+◌, ◌-◌, ◌==◌, nat_lt, if◌then◌else◌, min, List, [], ◌∷◌, ◌++◌, length, take, drop, replicate, slice_get, unwrap_or, Option, Some, None, is_some, chars, encode_utf8_all, IsUtf8, ⊤}
+use Rattle.std.specs.Prelude.{◌≡◌, ◌⊎◌, ◌↔◌, ℕ, ◌+◌, ◌-◌, ◌==◌, nat_lt, if◌then◌else◌, min, List, [], ◌∷◌, ◌++◌, length, take, drop, replicate, slice_get, unwrap_or, Option, Some, None, is_some, chars, encode_utf8_all, IsUtf8}
 use Rattle.std.specs.List.{filter_map}
 use Rattle.std.specs.Int.{to_be_bytes, w64}
 use Rattle.std.specs.Str.{IsValidUpTo}
@@ -98,26 +98,14 @@ abbrev pub IsNewData : Numbering → Option PlainFormat → (bytes new : List �
 IsNewData numbers None bytes new = new ≡ new_bytes numbers bytes
 IsNewData numbers (Some format) bytes new = IsByWay numbers format (way format) bytes new
 
--- ---- what takes the place of data
-
 -- the format says the same of other data of this length, where there is a format
 abbrev pub IsSameSaid : Option PlainFormat → (bytes other : List ℕ) → Type 0
 IsSameSaid None bytes other = length other ≡ length bytes
 IsSameSaid (Some format) bytes other = (length other ≡ length bytes) × ((says : Leaf) → IsLeafAnswer says format bytes ↔ IsLeafAnswer says format other)
 
--- the new data, or the same data, if the format said otherwise of the new ones
-abbrev pub IsReplaced : Numbering → Option PlainFormat → (bytes other : List ℕ) → Type 0
-IsReplaced numbers format bytes other = (new : List ℕ) × IsNewData numbers format bytes new
-    × ((IsSameSaid format bytes new × (other ≡ new)) ⊎ ((¬ IsSameSaid format bytes new) × (other ≡ bytes)))
-
 -- data of this format are replaced as text
 abbrev pub IsTextWay : PlainFormat → Type 0
 IsTextWay format = (refused : ℕ) × (way format ≡ ways.Text refused)
-
--- no format whose data are replaced as text
-abbrev pub NeverText : Option PlainFormat → Type 0
-NeverText None = ⊤
-NeverText (Some format) = ¬ IsTextWay format
 
 -- a text that its format accepts, behind what stays of it
 pub record IsAccepted (format : PlainFormat) (bytes before after : List ℕ) : Type 0 where

@@ -1,14 +1,12 @@
 //! The data of an AVP, replaced by its format.
 
-ghost use Rattle.std.specs.Prelude.{◌≡◌, ◌↔◌, ◌<◌, ◌≤◌, ◌++◌, ℕ, List, IfSome, IsNone, IsSome, IsTrue};
+ghost use Rattle.std.specs.Prelude.{◌≡◌, ◌<◌, ◌≤◌, ◌++◌, IfSome, IsNone, IsSome};
 ghost use Rattle.std.specs.Prelude.{IsUtf8, OnOk, Some, length, take, drop};
 ghost use Rattle.std.specs.Option.{option_map};
 ghost use Rattle.std.specs.Str.{IsValidUpTo};
-ghost use Rattle.dia_data.specs.Leaf.{IsLeaf, IsLeafAnswer};
-ghost use Rattle.dia_data.specs.declared.accept.Leaf.{Leaf as AnyLeaf};
+ghost use Rattle.dia_data.specs.Leaf.{IsLeaf};
 ghost use Rattle.dia_data.specs.Plain.{plain_format};
-ghost use Rattle.dia_mask.specs.declared.ways.Way.{Way as AnyWay};
-ghost use Rattle.dia_mask.specs.Replaced.{IsAccepted, IsBroken, IsNewData, IsReplaced, IsRule, IsSameSaid, IsText, IsTextWay};
+ghost use Rattle.dia_mask.specs.Replaced.{IsAccepted, IsBroken, IsNewData, IsRule, IsText, IsTextWay};
 ghost use Rattle.dia_mask.specs.Replaced.{Numbering, behind_slashes, new_bytes, text_start, way};
 ghost use Rattle.dia_mask.specs.Texts.{Agrees, Puts};
 ghost use Rattle.dia_mask.specs.Words.{Grows};
@@ -22,7 +20,7 @@ use std::str;
 impl Masking {
     /// Sets `data` to what replaces the data of an AVP of this format, or of one that the dictionary doesn't know.
     ///
-    /// A group and an Enumerated with a list stay; so do data that the format would answer otherwise if they were replaced.
+    /// A group and an Enumerated with a list stay.
     pub(crate) fn replace(
         &mut self,
         alloc: Global,
@@ -31,16 +29,10 @@ impl Masking {
     ) -> Result<(), AllocError>
         ensures grows { OnOk result (Grows self.old.words self.new.words) }
         ensures replaced { OnOk result ((numbers : Numbering) → Agrees self.new.words numbers
-            → IsReplaced numbers (option_map (λ f. plain_format f.now) format.entry) bytes.now self.new.data.items) }
+            → IsNewData numbers (option_map (λ f. plain_format f.now) format.entry) bytes.now self.new.data.items) }
     {
         self.data.clear();
-        self.push_data(alloc, format, bytes)?;
-        if is_same_said(format, bytes, &self.data) {
-            return Ok(());
-        }
-        self.data.clear();
-        self.data.extend_from_slice(bytes)?;
-        Ok(())
+        self.push_data(alloc, format, bytes)
     }
 
     fn push_data(
@@ -129,25 +121,6 @@ impl Masking {
         self.push_bytes(alloc, &bytes[family..])?;
         Ok(())
     }
-}
-
-/// Whether other data have the same length, and the format, if there is one, answers the same.
-fn is_same_said(format: Option<&Format>, bytes: &[u8], other: &[u8]) -> bool
-    ensures { IsTrue result
-        ↔ IsSameSaid (option_map (λ f. plain_format f.now) format.entry) bytes.now other.now }
-{
-    other.len() == bytes.len()
-        && match format {
-            Some(format) => says_same(format, bytes, other),
-            None => true,
-        }
-}
-
-fn says_same(format: &Format, bytes: &[u8], other: &[u8]) -> bool
-    ensures { IsTrue result ↔ ((says : AnyLeaf) → IsLeafAnswer says (plain_format format.now) bytes.now
-        ↔ IsLeafAnswer says (plain_format format.now) other.now) }
-{
-    accepts(format, bytes) == accepts(format, other)
 }
 
 /// What stays of a text that its format accepts, and what is text: of a URI what follows `//`.

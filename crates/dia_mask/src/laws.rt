@@ -4,7 +4,7 @@ ghost use Rattle.std.specs.Prelude.{ℕ, List, Option};
 ghost use Rattle.dia_data.specs.Plain.{PlainFormat};
 ghost use Rattle.dia_mask.specs.declared.words.Words.{Words as AnyWords};
 ghost use Rattle.dia_mask.specs.Followed.{AreFollowed};
-ghost use Rattle.dia_mask.specs.Replaced.{IsNewData, IsReplaced, NeverText, Numbering};
+ghost use Rattle.dia_mask.specs.Replaced.{IsNewData, IsSameSaid, Numbering};
 ghost use Rattle.dia_mask.specs.Texts.{Agrees};
 ghost use Rattle.dia_mask.specs.Words.{AreAllNumbers};
 
@@ -14,8 +14,8 @@ pub fn equal_words()
         → AreFollowed words numbers }
 {}
 
-/// No data of a masked AVP are left, but for a text of which its format would say otherwise.
-pub fn never_left()
-    ensures { (numbers : Numbering) (format : Option PlainFormat) (bytes other : List ℕ) → NeverText format
-        → IsReplaced numbers format bytes other → IsNewData numbers format bytes other }
+/// A format says the same of new data as of those that they replace, and they have the same length.
+pub fn said_again()
+    ensures { (numbers : Numbering) (format : Option PlainFormat) (bytes new : List ℕ)
+        → IsNewData numbers format bytes new → IsSameSaid format bytes new }
 {}

@@ -26,6 +26,6 @@ mod words;
 
 pub use choice::{Choice, can_be_masked};
 pub use counts::{AvpCount, Counts};
-pub use laws::{equal_words, never_left};
+pub use laws::{equal_words, said_again};
 pub use message::{Run, mask_message};
 pub use verdicts::same_verdict;

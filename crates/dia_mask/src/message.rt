@@ -5,7 +5,7 @@ ghost use Rattle.dia_wire.specs.Wire.{BeginsWith, BeginsWithNone, plain_avp};
 ghost use Rattle.dia_valid.specs.Valid.{group_at};
 ghost use Rattle.dia_mask.specs.Masked.{Adds, IsAround, IsLeafMasked, IsMasked, IsMessageMasked, IsNoAvpMasked};
 ghost use Rattle.dia_mask.specs.Masked.{format_at, is_masked, zeros};
-ghost use Rattle.dia_mask.specs.Replaced.{IsReplaced, Numbering};
+ghost use Rattle.dia_mask.specs.Replaced.{IsNewData, Numbering};
 ghost use Rattle.dia_mask.specs.Texts.{Agrees};
 ghost use Rattle.dia_mask.specs.Words.{AreAllNumbers, Grows};
 ghost use Rattle.dia_mask.specs.Verdict.{IsJudgedAlike};
@@ -228,7 +228,7 @@ fn push_replaced<B: Book>(
 ) -> Result<(), AllocError>
     ensures grows { OnOk result (Grows run.old.masking.words run.new.masking.words) }
     ensures put { OnOk result ((numbers : Numbering) → Agrees run.new.masking.words numbers → (other : List ℕ)
-        × IsReplaced numbers (format_at (B.meaning book.now) (plain_avp avp.now)) avp.now.bytes.now other
+        × IsNewData numbers (format_at (B.meaning book.now) (plain_avp avp.now)) avp.now.bytes.now other
         × (out.new.items ≡ (out.old.items ++ other) ++ zeros padding)) }
 {
     run.masking.replace(alloc, format_of(book, avp), avp.bytes)?;
