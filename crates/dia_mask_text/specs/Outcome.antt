@@ -15,7 +15,7 @@ use Rattle.dia_mask.specs.Words.{AreAllNumbers}
 use Rattle.dia_mask_text.specs.declared.choosing.BadName.{BadName}
 use Rattle.dia_mask_text.specs.declared.choosing.Why.{Why}
 use Rattle.dia_mask_text.specs.declared.choosing.Why.TheVariants.{Missing, Fixed, Twice}
-use Rattle.dia_mask_text.specs.Names.{Lists}
+use Rattle.dia_mask_text.specs.Names.{IsChoice, IsRefused, Lists}
 use Rattle.dia_mask_text.specs.Lines.{IsLineMasked, MaskedLine, are_messages, line_text}
 
 -- yes where each line spells bytes
@@ -39,7 +39,7 @@ name_line name Twice = codes "mask: " ++ name ++ codes " in two lists\n"
 
 -- a name of the options is refused; the dictionary is read before
 abbrev pub IsRefusedName : Lists → Input → BadName → Type 0
-IsRefusedName lists dictionary bad = (d : Dictionary) × IsDictionaryText dictionary d
+IsRefusedName lists dictionary bad = (d : Dictionary) × IsDictionaryText dictionary d × IsRefused lists d bad.name.now bad.why
 
 -- the dictionary is refused
 abbrev pub RefusesDictionary : Input → List ℕ → Type 0
@@ -52,5 +52,5 @@ pub data IsRefusal (lists : Lists) (dictionary : Input) (text : List ℕ) (exit 
 
 -- what `mask` writes for this dictionary and these bytes, and the exit
 abbrev pub IsMaskOutcome : Lists → Input → (bytes text : List ℕ) → Exit → Type 0
-IsMaskOutcome lists dictionary bytes text exit = ((d : Dictionary) × (choice : Choice) × IsDictionaryText dictionary d × AreMasked choice d bytes text exit)
+IsMaskOutcome lists dictionary bytes text exit = ((d : Dictionary) × (choice : Choice) × IsDictionaryText dictionary d × IsChoice lists d choice × AreMasked choice d bytes text exit)
     ⊎ IsRefusal lists dictionary text exit
