@@ -85,7 +85,10 @@ def is_told(command, said):
     if "junit" in command:
         suite = ElementTree.fromstring(said)
         return suite.get("errors") == "1" and len(suite.findall("testcase/error")) == 1
-    return any(line.startswith("::error::") for line in said.splitlines()) if "annotations" in command else True
+    if "break_annotations" in command:
+        # the lines before the answer broke off have their annotations
+        return any(line.startswith("::error::") for line in said.splitlines())
+    return said.startswith("::error::") if "annotations" in command else True
 
 
 def fails(command, room, title, report):
