@@ -5,38 +5,28 @@ import shutil
 import struct
 import subprocess
 
+from counts import LONGEST, Count
+
 TOP = pathlib.Path(__file__).resolve().parent.parent
 C = TOP / "c"
 PROVED = TOP / "crates/dia_c/out/libdia_c.a"
 MANDATORY, REQUEST, PROXIABLE, ERROR = 0x40, 0x80, 0x40, 0x20
 
 
-class Counts:
-    """How much passed and failed."""
-
-    def __init__(self):
-        self.passed, self.failed = 0, 0
-
-    def report(self, is_right, title, found=""):
-        self.passed, self.failed = self.passed + bool(is_right), self.failed + (not is_right)
-        if not is_right:
-            print(f"FAILED {title}\n{found}")
-        return is_right
+class Counts(Count):
+    """How much passed and failed, also of commands that are run."""
 
     def run(self, title, words, status=0, **more):
         """Runs a command, counts whether its status is right, and gives its standard output."""
+        how = {"stdout": subprocess.PIPE, "stderr": subprocess.PIPE, "timeout": 300, **more}
         try:
-            done = subprocess.run([str(word) for word in words], **{"capture_output": True, "timeout": 300, **more}, check=False)
+            done = subprocess.run([str(word) for word in words], **how, check=False)
         except (OSError, subprocess.TimeoutExpired) as error:
             self.report(False, title, error)
             return b""
-        said = (done.stdout + done.stderr).decode(errors="replace")
-        self.report(done.returncode == status, title, f"status {done.returncode}\n{said[-3000:]}")
+        said = (done.stdout + (done.stderr or b"")).decode(errors="replace")
+        self.report(done.returncode == status, title, f"status {done.returncode}\n{said[-LONGEST:]}")
         return done.stdout
-
-    def end(self):
-        print(f"{self.passed} passed, {self.failed} failed")
-        return self.failed != 0
 
 
 def has(tools, what):
