@@ -5,9 +5,11 @@ pub mod Fillers
 pub mod FirstRequests
 pub mod Headers
 pub mod InRange
+pub mod JoinedRanges
 pub mod MadeAvps
 pub mod MadeLevels
 pub mod Messages
 pub mod Places
 pub mod Reported
+pub mod TwiceFindings
 pub mod Unnamed

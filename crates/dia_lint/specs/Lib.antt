@@ -7,6 +7,8 @@ pub mod Firsts
 pub mod Gathered
 pub mod GuidelineLines
 pub mod Guidelines
+pub mod Overlaps
 pub mod OwnRules
 pub mod Pairs
+pub mod TwiceListed
 pub mod Words

@@ -16,6 +16,7 @@ mod finding;
 mod guidelines;
 mod levels;
 mod normal;
+mod overlaps;
 mod own_rules;
 mod reached;
 mod rule;
