@@ -83,6 +83,7 @@ joins_more start range old new first last first' last' f l joined over gone leas
         by : IsWithin n (first, last) ⊎ IsWithin n (first', last') → Has start n ⊎ IsWithin n range
         by (inl own) = (joined.numbers n).0 (inr own)
         by (inr own) = (joined.numbers n).0 (inl (last', first', over.0, own.0, own.1))
+
     from : (n : ℕ) → Has old n ⊎ IsWithin n (first, last) → Has new n ⊎ IsWithin n (f, l)
     from n (inl has) = by (taken_has old new last' gone first' over.0 n has)
       where
@@ -104,6 +105,7 @@ gains_joined start range mid new first last joined clear put = λ n. (λ h. (joi
             let low_is : low ≡ first = same_Some low first (sym at ∙ ap (get nat_cmp new) e ∙ put.0) in
             inr (omega (arith, low_is, ge), omega (arith, e, le))
         by (inr apart) = inl (high, low, sym (put.1 high apart) ∙ at, ge, le)
+
     from : (n : ℕ) → Has mid n ⊎ IsWithin n (first, last) → Has new n
     from n (inr own) = (last, first, put.0, own.0, own.1)
     from n (inl (high, low, at, ge, le)) = (high, low, put.1 high absent ∙ at, ge, le)
@@ -140,11 +142,13 @@ twice_more list i low high before numbers new least at are has is same = record 
   where
     length-push : (xs : List (Option ℕ)) → length (xs ++ least ∷ []) ≡ length xs + 1
     length-push xs = simp length-append refl
+
     own : IsLeastOf (IsTwice list i) least
     own = least_same (λ n. IsWithin n (low, high) × Has before n) (IsTwice list i)
         (λ n h. ((low, high), at, h.0, (has n).0 h.1))
         (λ n (range, there, within, ahead). (let e : range ≡ (low, high) = same_Some range (low, high) (sym there ∙ at) in subst (IsWithin n) e within, (has n).1 ahead))
         least is
+
     by : (place : ℕ) (o : Option ℕ) → (slice_get numbers place ≡ Some o) ⊎ ((place ≡ length numbers) × (least ≡ o)) → IsLeastOf (IsTwice list place) o
     by place o (inl there) = are.each place o there
     by place o (inr (e, same)) = subst (λ (k : ℕ). IsLeastOf (IsTwice list k) o) (sym (e ∙ are.length)) (subst (IsLeastOf (IsTwice list i)) same own)
@@ -156,6 +160,7 @@ before_more list i low high old new at has gains n = (λ h. to ((gains n).0 h), 
     to : Has old n ⊎ IsWithin n (low, high) → IsBefore list (i + 1) n
     to (inl h) = let (j, range, lt, there, within) = (has n).0 h in (j, range, omega (arith, lt), there, within)
     to (inr within) = (i, (low, high), omega arith, at, within)
+
     from : (j : ℕ) (range : ℕ × ℕ) → slice_get list j ≡ Some range → IsWithin n range → (j < i) ⊎ (i ≤ j) → j < i + 1 → Has new n
     from j range there within (inl lt) less = (gains n).1 (inl ((has n).1 (j, range, lt, there, within)))
     from j range there within (inr le) less =

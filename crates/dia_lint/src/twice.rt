@@ -38,11 +38,7 @@ fn of_entry<B: Book>(alloc: Global, book: &B, entry: Entry) -> Result<Vec<Findin
     }
 }
 
-fn of_ranges(
-    alloc: Global,
-    entry: Entry,
-    list: &[(u32, u32)],
-) -> Result<Vec<Finding>, AllocError>
+fn of_ranges(alloc: Global, entry: Entry, list: &[(u32, u32)]) -> Result<Vec<Finding>, AllocError>
     ensures rules { IfOk result (λ found. AreOf Rule.TwiceListed found.items) }
     ensures twice_listed { IfOk result (λ found. AreOfRanges entry list.now found.items) }
 {

@@ -9,4 +9,4 @@ loop-index-preserved c =
     let numbers = c.args.numbers.now in
     let i = c.loop-index.index in
     range_more c.args.entry i numbers (get_or numbers i None) c.loop-index.found.items c.push.new.found.items c.twice_finding.result
-        (slice_get-get_or numbers i None c.loop-index-test.true) c.twice_finding.ensures c.in_ok-push.ensures c.loop-index.invariant
+    (slice_get-get_or numbers i None c.loop-index-test.true) c.twice_finding.ensures c.in_ok-push.ensures c.loop-index.invariant
