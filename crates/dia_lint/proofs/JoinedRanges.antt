@@ -1,11 +1,11 @@
 -- Ranges that lie apart, as ranges are taken out, joined and put in.
-use Rattle.std.proofs.Common.{◌≡◌, ℕ, ◌+◌, ◌<◌, ◌≤◌, Bool, true, false, List, [], ◌∷◌, ◌++◌, length, Option, Some, None, refl, sym, ap, subst, ◌∙◌, arith, inl, inr, zero, suc, length-append}
-use Rattle.std.specs.Prelude.{◌⊎◌, ◌↔◌, min, max, slice_get, IsSome, MatchOption}
+use Rattle.std.proofs.Common.{◌≡◌, ℕ, ◌+◌, ◌<◌, ◌≤◌, true, false, List, [], ◌∷◌, ◌++◌, length, Option, Some, None, refl, sym, ap, subst, ◌∙◌, arith, inl, inr, zero, suc, length-append}
+use Rattle.std.specs.Prelude.{◌⊎◌, ◌↔◌, min, max, slice_get, IsSome}
 use Rattle.std.specs.BTreeMap.{BTreeMap, UpdatesBy, get, is_at}
 use Rattle.std.specs.Ordering.{nat_cmp}
 use Rattle.std.proofs.lemmas.Bool.{cases_lt}
 use Rattle.std.proofs.lemmas.Bool.Decides.{nat_tests}
-use Rattle.std.proofs.lemmas.Option.{none-some, same_Some, slice_get_within}
+use Rattle.std.proofs.lemmas.Option.{none-some, same_Some}
 use Rattle.dia_data.specs.Leaf.{IsWithin}
 use Rattle.dia_lint.specs.Overlaps.{AreApart, AreJoined, AreTwice, Gains, Has, IsBefore, IsClear, IsLeastOf, IsOverlapping, IsTwice}
 

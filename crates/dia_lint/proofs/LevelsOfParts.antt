@@ -1,19 +1,18 @@
 -- The levels of a definition are those of its parts.
-use Rattle.std.proofs.Common.{◌≡◌, ℕ, zero, suc, ◌+◌, ◌<◌, ◌≤◌, Bool, true, false, cond, List, [], ◌∷◌, ◌++◌, length, filter, Option, Some, None, refl, sym, ap, subst, ◌∙◌, arith, inl, inr}
+use Rattle.std.proofs.Common.{◌≡◌, ℕ, ◌≤◌, Bool, true, false, cond, List, [], ◌∷◌, ◌++◌, length, filter, Option, Some, None, refl, sym, ap, subst, ◌∙◌, arith, inl, inr}
 use Rattle.std.specs.Prelude.{◌⊎◌, ◌↔◌, nat_eq, not, ◌&&◌, ◌||◌, if◌then◌else◌, count_by, find, is_some, option_and_then, slice_get, IfSome, IsSome, IsTrue}
 use Rattle.std.specs.Option.{option_eq}
-use Rattle.std.specs.List.{AllByRecursion, list_any}
-use Rattle.std.proofs.lemmas.Bool.{and_from, and_parts, eqb-true, false_from_ne_true, not-true, not-false, or_cases, or_left, or_right, or_parts}
+use Rattle.std.proofs.lemmas.Bool.{and_from, and_parts, eqb-true, false_from_ne_true, not-true, not-false, or_left, or_right}
 use Rattle.std.proofs.lemmas.Option.{none-some, same_Some}
 use Rattle.dia_wire.specs.declared.Key.{Key}
 use Rattle.dia_book.specs.declared.DRule.{DRule}
 use Rattle.dia_book.specs.Dictionary.{AreRules, is_fixed, lists_key}
 use Rattle.dia_valid.specs.Rules.{wildcard_of}
-use Rattle.dia_valid.specs.Valid.{InBounds, MayBeLoose, Placed, Runs, counted, fixed_rules, has_wildcard, is_listed, is_wildcard, loose_rules}
+use Rattle.dia_valid.specs.Valid.{InBounds, MayBeLoose, Placed, Runs, counted, has_wildcard, is_listed, is_wildcard, loose_rules}
 use Rattle.dia_valid.proofs.Members.{IsIn, all_in, all_of, at_in, count_cons, count_in, count_none, in_all, in_any, any_in, in_filter, into_filter, some_of, when_some, at_some}
 use Rattle.dia_valid.proofs.RulesOfKeys.{is_listed_by, key_of_test, listed, lists}
 use Rattle.dia_lint.specs.Guidelines.{lets_in}
-use Rattle.dia_lint.specs.LevelParts.{MayFollow, Meets, Parts, is_any, is_first, is_needed, is_other, is_said, others_of, parts_of}
+use Rattle.dia_lint.specs.LevelParts.{MayFollow, Meets, is_any, is_first, is_needed, is_other, is_said, others_of, parts_of}
 
 -- each key and the wildcard have one rule, fixed rules have keys, and bounds can be met
 pub record AreSound (rules : List DRule) : Type 0 where

@@ -1,6 +1,6 @@
 -- Without a rule that says nothing a definition has the same parts, and so the same levels.
-use Rattle.std.proofs.Common.{◌≡◌, ℕ, zero, suc, ◌+◌, ◌<◌, ◌≤◌, Bool, true, false, cond, List, [], ◌∷◌, ◌++◌, filter, take, drop, Option, Some, None, refl, sym, ap, subst, ◌∙◌, arith, inl, inr}
-use Rattle.std.specs.Prelude.{◌⊎◌, ◌↔◌, nat_eq, nat_lt, not, ◌&&◌, ◌||◌, if◌then◌else◌, find, is_some, option_and_then, slice_get, IfSome, IsSome}
+use Rattle.std.proofs.Common.{◌≡◌, ℕ, zero, suc, Bool, true, false, cond, List, [], ◌∷◌, ◌++◌, filter, take, drop, Option, Some, None, refl, sym, ap, subst, ◌∙◌, arith, inl, inr}
+use Rattle.std.specs.Prelude.{◌⊎◌, ◌↔◌, nat_eq, nat_lt, not, ◌&&◌, ◌||◌, if◌then◌else◌, find, is_some, option_and_then, slice_get, IsSome}
 use Rattle.std.specs.Option.{option_map_or}
 use Rattle.std.specs.List.{remove}
 use Rattle.std.proofs.lemmas.Bool.{and_from, and_parts, ltb-false, eq-eqb, not-true, not-false, or_parts, or_cases}

@@ -1,6 +1,6 @@
 -- Definitions whose rules have the same normal form have the same levels.
-use Rattle.std.proofs.Common.{◌≡◌, ℕ, zero, suc, ◌+◌, ◌-◌, ◌<◌, ◌≤◌, Bool, true, false, cond, List, [], ◌∷◌, ◌++◌, length, take, drop, Option, Some, None, refl, sym, ap, subst, ◌∙◌, arith, inl, inr}
-use Rattle.std.specs.Prelude.{◌⊎◌, ◌↔◌, not, ◌||◌, count_by, is_some, IfSome, IsSome, IsTrue, Contains}
+use Rattle.std.proofs.Common.{◌≡◌, ℕ, zero, suc, ◌-◌, ◌≤◌, Bool, true, false, cond, List, [], ◌∷◌, ◌++◌, length, take, drop, Option, Some, None, refl, sym, ap, subst, ◌∙◌, arith, inl, inr}
+use Rattle.std.specs.Prelude.{◌⊎◌, ◌↔◌, not, ◌||◌, count_by, IfSome, IsSome}
 use Rattle.std.specs.Option.{option_map, option_map_or}
 use Rattle.std.specs.List.{AllByRecursion}
 use Rattle.std.proofs.lemmas.Bool.{false_from_ne_true}
@@ -11,8 +11,8 @@ use Rattle.dia_book.specs.declared.DRule.{DRule}
 use Rattle.dia_book.specs.Dictionary.{AreRules, lists_key}
 use Rattle.dia_book.specs.Keys.{same_key}
 use Rattle.dia_valid.specs.Valid.{InBounds, Placed, Runs, is_listed}
-use Rattle.dia_valid.proofs.Members.{IsIn, all_in, at_some, contains_in, count_all, count_cons, in_all, in_contains, some_of, when_some}
-use Rattle.dia_valid.proofs.RulesOfKeys.{is_listed_by, key_of_test, listed, lists}
+use Rattle.dia_valid.proofs.Members.{IsIn, all_in, at_some, contains_in, count_all, count_cons, in_all, in_contains, when_some}
+use Rattle.dia_valid.proofs.RulesOfKeys.{is_listed_by, listed, lists}
 use Rattle.dia_lint.specs.LevelParts.{AreAlike, AreAmong, AskSame, MayFollow, Meets, Parts, bounds, is_other, parts_of, settled, settled_by}
 use Rattle.dia_lint.proofs.LevelsOfParts.{differ, nil_of, placed_by_parts, sound}
 

@@ -1,4 +1,4 @@
-use Rattle.std.proofs.Common.{get_or, sym}
+use Rattle.std.proofs.Common.{get_or}
 use Rattle.std.proofs.lemmas.Option.{slice_get-get_or}
 use Rattle.dia_lint.proofs.JoinedRanges.{before_more, twice_more}
 use Rattle.dia_lint.proofs.overlaps.numbers_twice.Goals as goal
