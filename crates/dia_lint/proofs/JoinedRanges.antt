@@ -65,7 +65,8 @@ within_both n first last first' last' f l least most over over' ge le = by (case
     by (inr own) (inl lt) = inr (omega (arith, over', lt), omega (arith, most, le, lt))
     by (inr own) (inr own') = inl (own, own')
 
-pub joins_more : (start : BTreeMap ℕ ℕ) (range : ℕ × ℕ) (old new : BTreeMap ℕ ℕ) (first last first' last' f l : ℕ) → AreJoined start range old (first, last) → IsOverlapping old (first, last) (first', last')
+pub joins_more : (start : BTreeMap ℕ ℕ) (range : ℕ × ℕ) (old new : BTreeMap ℕ ℕ) (first last first' last' f l : ℕ) → AreJoined start range old (first, last)
+    → IsOverlapping old (first, last) (first', last')
     → Differ old last' None new → f ≡ min first first' → l ≡ max last last' → AreJoined start range new (f, l)
 joins_more start range old new first last first' last' f l joined over gone least most = record {
   apart = taken_apart old new last' gone joined.apart;
@@ -94,7 +95,8 @@ joins_more start range old new first last first' last' f l joined over gone leas
 
 -- ---- a range that is clear of the others is put in
 
-pub gains_joined : (start : BTreeMap ℕ ℕ) (range : ℕ × ℕ) (mid new : BTreeMap ℕ ℕ) (first last : ℕ) → AreJoined start range mid (first, last) → IsClear mid (first, last) → Differ mid last (Some first) new → Gains start range new
+pub gains_joined : (start : BTreeMap ℕ ℕ) (range : ℕ × ℕ) (mid new : BTreeMap ℕ ℕ) (first last : ℕ) → AreJoined start range mid (first, last) → IsClear mid (first, last)
+    → Differ mid last (Some first) new → Gains start range new
 gains_joined start range mid new first last joined clear put = λ n. (λ h. (joined.numbers n).0 (to n h), λ h. from n ((joined.numbers n).1 h))
   where
     to : (n : ℕ) → Has new n → Has mid n ⊎ IsWithin n (first, last)

@@ -14,5 +14,6 @@ pub mod Places
 pub mod Reported
 pub mod RulesThatSayNothing
 pub mod SameLevels
+pub mod SoundRules
 pub mod TwiceFindings
 pub mod Unnamed

@@ -16,7 +16,8 @@ use Rattle.dia_lint.specs.Guidelines.{lets_in}
 use Rattle.dia_lint.specs.LevelParts.{Meets, Parts, is_any, is_first, is_needed, is_said, others_of, parts_of}
 use Rattle.dia_lint.specs.OwnRules.{is_any_number, lets_others_in, why_nothing}
 use Rattle.dia_lint.specs.declared.detail.Detail.{Detail}
-use Rattle.dia_lint.proofs.LevelsOfParts.{AreSound, cases, find_in, placed_by_parts, same_wildcard, sound}
+use Rattle.dia_lint.proofs.LevelsOfParts.{placed_by_parts, same_wildcard}
+use Rattle.dia_lint.proofs.SoundRules.{AreSound, cases, find_in, sound}
 
 pub rules_sound : (d : Dictionary) (def : ℕ) → IsDictionary d → AreSound (rules_in d def)
 rules_sound d def is = by (slice_get (definitions d) def) refl
@@ -78,7 +79,8 @@ out_never rules r never why = record {
         let needed : is_needed (others_of rules) r ≡ false = ap (λ (o : Option DRule). is_needed o r) (no_others (wildcard_of rules) none) ∙ never in
         and_false (is_some r.key) (not (is_fixed r && lets_in r) && is_needed (others_of rules) r) (and_false (not (is_fixed r && lets_in r)) (is_needed (others_of rules) r) needed)
 
-out_said : (rules : List DRule) (r : DRule) → nat_lt 0 r.min ≡ false → is_wildcard r ≡ false → lets_others_in (wildcard_of rules) ≡ true → option_map_or (is_any_number r) (wildcard_of rules) false ≡ true → IsOut rules r
+out_said : (rules : List DRule) (r : DRule) → nat_lt 0 r.min ≡ false → is_wildcard r ≡ false → lets_others_in (wildcard_of rules) ≡ true
+    → option_map_or (is_any_number r) (wildcard_of rules) false ≡ true → IsOut rules r
 out_said rules r least keyed lets any = by (wildcard_of rules) refl lets any
   where
     none_least : nat_eq r.min 0 ≡ true
@@ -144,7 +146,8 @@ module _ (rules : List DRule) (s : AreSound rules) (i : ℕ) (r : DRule) (at : s
   same_others = by (cases (is_wildcard r))
     where
       by : (is_wildcard r ≡ true) ⊎ (is_wildcard r ≡ false) → others_of (remove rules i) ≡ others_of rules
-      by (inr keyed) = ap (option_and_then (λ (w : DRule). if lets_in w then Some w else None)) (find_without is_wildcard r keyed (take i rules) (drop (suc i) rules) ∙ ap (find is_wildcard) (sym whole))
+      by (inr keyed) = ap (option_and_then (λ (w : DRule). if lets_in w then Some w else None)) (find_without is_wildcard r keyed (take i rules) (drop (suc i) rules) ∙ ap (find is_wildcard)
+          (sym whole))
       by (inl is) =
           let never = out.wild is in
           let of_all : (w : DRule) → IsIn w rules → is_wildcard w ≡ true → lets_in w ≡ false = λ w iw ww. ap lets_in (same_wildcard rules s w r iw ww (in_at rules i r at) is) ∙ never in

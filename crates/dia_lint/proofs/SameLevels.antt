@@ -14,7 +14,8 @@ use Rattle.dia_valid.specs.Valid.{InBounds, Placed, Runs, is_listed}
 use Rattle.dia_valid.proofs.Members.{IsIn, all_in, at_some, contains_in, count_all, count_cons, in_all, in_contains, when_some}
 use Rattle.dia_valid.proofs.RulesOfKeys.{is_listed_by, listed, lists}
 use Rattle.dia_lint.specs.LevelParts.{AreAlike, AreAmong, AskSame, MayFollow, Meets, Parts, bounds, is_other, parts_of, settled, settled_by}
-use Rattle.dia_lint.proofs.LevelsOfParts.{differ, nil_of, placed_by_parts, sound}
+use Rattle.dia_lint.proofs.LevelsOfParts.{placed_by_parts}
+use Rattle.dia_lint.proofs.SoundRules.{differ, nil_of, sound}
 
 -- ---- parts that ask the same
 
@@ -68,7 +69,8 @@ module _ (p q : Parts) (same : AskSame p q) (keys : List Key) (m : Meets p keys)
   any_count t it =
       let (r, ir, e, within) = same.back t (contains_in q.anys t it) in
       let own = in_all (λ (x : DRule). InBounds x (count_by (λ key. lists_key key x) m.rest)) r p.anys m.counts (in_contains p.anys r ir) in
-      let counts : count_by (λ key. lists_key key r) m.rest ≡ count_by (λ key. lists_key key t) m.rest = ap (λ (o : Option Key). count_by (λ key. option_map_or (same_key key) o false) m.rest) (sym e) in
+      let counts : count_by (λ key. lists_key key r) m.rest ≡ count_by (λ key. lists_key key t) m.rest = ap (λ (o : Option Key). count_by (λ key. option_map_or (same_key key) o false) m.rest)
+      (sym e) in
       subst (InBounds t) counts (in_same r t (count_by (λ key. lists_key key r) m.rest) (sym within) own)
 
   other_count : (v : DRule) → q.others ≡ Some v → InBounds v (count_by (is_other q) m.rest)

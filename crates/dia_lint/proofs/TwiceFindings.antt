@@ -29,7 +29,8 @@ pub no_entry : (d : Dictionary) → AreTwiceListed d 0 []
 no_entry d = record { parts = []; count = refl; each = λ e x part at there. absurd (none-some part there); all = refl }
 
 -- one AVP more
-pub entry_more : (d : Dictionary) (n : ℕ) (old own new : List Finding) → AreTwiceListed d n old → IfSome (slice_get d.entries n) (λ x. AreOfEntry n x own) → new ≡ old ++ own → AreTwiceListed d (n + 1) new
+pub entry_more : (d : Dictionary) (n : ℕ) (old own new : List Finding) → AreTwiceListed d n old → IfSome (slice_get d.entries n) (λ x. AreOfEntry n x own) → new ≡ old ++ own
+    → AreTwiceListed d (n + 1) new
 entry_more d n old own new are one same = record {
   parts = are.parts ++ own ∷ [];
   count = simp length-append (ap (λ (k : ℕ). k + 1) are.count);
@@ -51,10 +52,12 @@ of_twice : (e : ℕ) (least : Option ℕ) → IfSome (twice_finding e least) (λ
 of_twice e None = tt
 of_twice e (Some n) = refl
 
-pub range_more : (e i : ℕ) (numbers : List (Option ℕ)) (least : Option ℕ) (old new : List Finding) (one : Option Finding) → slice_get numbers i ≡ Some least → one ≡ twice_finding e least → new ≡ old ++ option_to_list one
+pub range_more : (e i : ℕ) (numbers : List (Option ℕ)) (least : Option ℕ) (old new : List Finding) (one : Option Finding) → slice_get numbers i ≡ Some least → one ≡ twice_finding e least
+    → new ≡ old ++ option_to_list one
     → AreOf rule.TwiceListed old × (old ≡ gathered (twice_part e numbers) i) → AreOf rule.TwiceListed new × (new ≡ gathered (twice_part e numbers) (i + 1))
 range_more e i numbers least old new one at is same was = (
-  subst (AreOf rule.TwiceListed) (sym same) (one_more_of rule.TwiceListed old one was.0 (subst (λ (o : Option Finding). IfSome o (λ (x : Finding). x.rule ≡ rule.TwiceListed)) (sym is) (of_twice e least))),
+  subst (AreOf rule.TwiceListed) (sym same) (one_more_of rule.TwiceListed old one was.0 (subst (λ (o : Option Finding). IfSome o (λ (x : Finding). x.rule ≡ rule.TwiceListed)) (sym is)
+      (of_twice e least))),
   same ∙ ap (λ (xs : List Finding). xs ++ option_to_list one) was.1 ∙ ap (λ (o : Option Finding). gathered (twice_part e numbers) i ++ option_to_list o) part ∙ one_part_more (twice_part e numbers) i,
 )
   where
@@ -62,7 +65,8 @@ range_more e i numbers least old new one at is same was = (
     part = is ∙ ap (option_and_then (twice_finding e)) (sym at)
 
 -- as the calls say it: the entry has this number, and its findings are copied
-pub added_more : (d : Dictionary) (n e : ℕ) (old own added new : List Finding) → AreOf rule.TwiceListed old × AreTwiceListed d n old → e ≡ n → AreOf rule.TwiceListed own → IfSome (slice_get d.entries e) (λ x. AreOfEntry e x own) → added ≡ own → new ≡ old ++ added
+pub added_more : (d : Dictionary) (n e : ℕ) (old own added new : List Finding) → AreOf rule.TwiceListed old × AreTwiceListed d n old → e ≡ n → AreOf rule.TwiceListed own
+    → IfSome (slice_get d.entries e) (λ x. AreOfEntry e x own) → added ≡ own → new ≡ old ++ added
     → AreOf rule.TwiceListed new × AreTwiceListed d (n + 1) new
 added_more d n e old own added new are same of one copied is =
     let joined : new ≡ old ++ own = is ∙ ap (λ (xs : List Finding). old ++ xs) copied in (

@@ -1,6 +1,7 @@
 -- What the rules of a definition ask of a level, in parts: the AVPs that come first, in their order; those that follow in any
 -- order; and all others (RFC 6733 section 3.2).
-use Rattle.std.specs.Prelude.{◌≡◌, ◌⊎◌, ℕ, ◌-◌, nat_eq, Bool, false, not, ◌&&◌, ◌||◌, if◌then◌else◌, List, [], length, take, drop, filter, count_by, Option, Some, None, is_some, option_and_then, IfSome, IsSome, IsTrue, Contains}
+use Rattle.std.specs.Prelude.{◌≡◌, ◌⊎◌, ℕ, ◌-◌, nat_eq, Bool, false, not, ◌&&◌, ◌||◌, if◌then◌else◌, List, []}
+use Rattle.std.specs.Prelude.{length, take, drop, filter, count_by, Option, Some, None, is_some, option_and_then, IfSome, IsSome, IsTrue, Contains}
 use Rattle.std.specs.Option.{option_map}
 use Rattle.std.specs.List.{AllByRecursion}
 use Rattle.dia_wire.specs.declared.Key.{Key}

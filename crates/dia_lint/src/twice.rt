@@ -14,7 +14,8 @@ use std::alloc::{AllocError, Global};
 /// The ranges of which a range before them has a number, in the dictionary's order.
 pub fn range_findings<B: Book>(alloc: Global, book: &B) -> Result<Vec<Finding>, AllocError>
     ensures rules { IfOk result (λ found. AreOf Rule.TwiceListed found.items) }
-    ensures twice_listed { IfOk result (λ found. AreTwiceListed (B.meaning book.now) (length (B.meaning book.now).entries) found.items) }
+    ensures twice_listed { IfOk result (λ found.
+        AreTwiceListed (B.meaning book.now) (length (B.meaning book.now).entries) found.items) }
 {
     let mut found = Vec::new(alloc);
     for index in 0..book.entries() {
@@ -27,7 +28,8 @@ pub fn range_findings<B: Book>(alloc: Global, book: &B) -> Result<Vec<Finding>, 
 fn of_entry<B: Book>(alloc: Global, book: &B, entry: Entry) -> Result<Vec<Finding>, AllocError>
     requires { entry < length (B.meaning book.now).entries }
     ensures rules { IfOk result (λ found. AreOf Rule.TwiceListed found.items) }
-    ensures twice_listed { IfOk result (λ found. IfSome (slice_get (B.meaning book.now).entries entry) (λ x. AreOfEntry entry x found.items)) }
+    ensures twice_listed { IfOk result (λ found.
+        IfSome (slice_get (B.meaning book.now).entries entry) (λ x. AreOfEntry entry x found.items)) }
 {
     let Some(values) = book.format(entry).values() else {
         return Ok(Vec::new(alloc));
