@@ -15,7 +15,7 @@ Differ old at there new = (get nat_cmp new at ≡ there) × ((high : ℕ) → (h
 
 -- ---- a range is taken out
 
-same_or : (a b : ℕ) → (a ≡ b) ⊎ (a ≡ b → ⊥)
+pub same_or : (a b : ℕ) → (a ≡ b) ⊎ (a ≡ b → ⊥)
 same_or a b = by (cases_lt a b) (cases_lt b a)
   where
     by : (a < b) ⊎ (b ≤ a) → (b < a) ⊎ (a ≤ b) → (a ≡ b) ⊎ (a ≡ b → ⊥)

@@ -14,6 +14,7 @@ pub mod Places
 pub mod Reported
 pub mod RulesThatSayNothing
 pub mod SameLevels
+pub mod SameMessages
 pub mod SoundRules
 pub mod TwiceFindings
 pub mod Unnamed

@@ -11,5 +11,6 @@ pub mod LevelParts
 pub mod Overlaps
 pub mod OwnRules
 pub mod Pairs
+pub mod SameVerdicts
 pub mod TwiceListed
 pub mod Words

@@ -30,7 +30,7 @@ pub use detail::Detail;
 pub use exact::exact_findings;
 pub use finding::{Finding, Named, Place, Subject};
 pub use guidelines::{command_guidelines, group_guidelines, guideline_findings};
-pub use laws::{rules_of_one_form, rules_that_say_nothing};
+pub use laws::{messages_without_rules, rules_of_one_form, rules_that_say_nothing};
 pub use own_rules::rule_findings;
 pub use rule::{RULE_COUNT, Rule, RuleSet, all_rules};
 pub use same_commands::command_findings;
