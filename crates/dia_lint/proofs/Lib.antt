@@ -5,9 +5,16 @@ pub mod Fillers
 pub mod FirstRequests
 pub mod Headers
 pub mod InRange
+pub mod JoinedRanges
+pub mod LevelsOfParts
 pub mod MadeAvps
 pub mod MadeLevels
 pub mod Messages
 pub mod Places
 pub mod Reported
+pub mod RulesThatSayNothing
+pub mod SameLevels
+pub mod SameMessages
+pub mod SoundRules
+pub mod TwiceFindings
 pub mod Unnamed

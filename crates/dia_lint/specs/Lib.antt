@@ -7,6 +7,10 @@ pub mod Firsts
 pub mod Gathered
 pub mod GuidelineLines
 pub mod Guidelines
+pub mod LevelParts
+pub mod Overlaps
 pub mod OwnRules
 pub mod Pairs
+pub mod SameVerdicts
+pub mod TwiceListed
 pub mod Words

@@ -16,5 +16,6 @@ returns g c =
           (c.in_ok-extend_from_slice.ensures.items) (c.in_ok-extend_from_slice-2.ensures.items) (c.in_ok-extend_from_slice-3.ensures.items)
           c.deref.ensures.value (c.deref-2.ensures.value ∙ c.in_ok-own_rules.ensures) (c.deref-3.ensures.value ∙ c.in_ok-guidelines.ensures);
       of_commands = c.in_ok-all.ensures;
-      of_ranges = c.in_ok-ranges.ensures;
+      of_ranges = c.in_ok-ranges.ensures.rules;
+      twice_listed = c.in_ok-ranges.ensures.twice_listed;
     }
