@@ -7,6 +7,9 @@ pub mod Firsts
 pub mod Gathered
 pub mod GuidelineLines
 pub mod Guidelines
+pub mod Held
 pub mod OwnRules
 pub mod Pairs
+pub mod WayLines
+pub mod Ways
 pub mod Words
