@@ -3,7 +3,9 @@ pub mod CommandLines
 pub mod ExactFindings
 pub mod Fillers
 pub mod FirstRequests
+pub mod FoundWays
 pub mod Headers
+pub mod HeldLevels
 pub mod InRange
 pub mod JoinedRanges
 pub mod LevelsOfParts
@@ -15,6 +17,11 @@ pub mod Reported
 pub mod RulesThatSayNothing
 pub mod SameLevels
 pub mod SameMessages
+pub mod SentLevels
 pub mod SoundRules
 pub mod TwiceFindings
 pub mod Unnamed
+pub mod WayCosts
+pub mod WayFindings
+pub mod WayGraphs
+pub mod WayTruths

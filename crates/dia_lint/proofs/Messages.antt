@@ -17,9 +17,9 @@ use Rattle.dia_terms.specs.declared.Unknown.TheVariants.{Kept, Refused}
 use Rattle.dia_terms.specs.declared.Levels.TheVariants as levels
 use Rattle.dia_terms.specs.declared.Sends.{Sends}
 use Rattle.dia_terms.specs.declared.Sends.TheVariants.{Any, Known, Listed}
-use Rattle.dia_valid.specs.Valid.{Fits, IsLevel, IsValidOf, Placed, is_listed, known}
+use Rattle.dia_valid.specs.Valid.{AllFit, Fits, IsLevel, IsValidOf, Placed, is_listed, known}
 use Rattle.dia_valid.proofs.Members.{contains_in, in_at}
-use Rattle.dia_breaking_sites.specs.Sent.{AreBytes, IsSent, IsSentLevel, IsSentWithin, StandAsSent, own_policy}
+use Rattle.dia_breaking_sites.specs.Sent.{AreBytes, AreSentAvps, IsSent, IsSentLevel, IsSentWithin, StandAsSent, own_policy}
 use Rattle.dia_breaking_sites.proofs.Members.{all_map, all_parts}
 use Rattle.dia_breaking_sites.proofs.SafeLevels.{body_more}
 use Rattle.dia_breaking_sites.proofs.SentIsValid.{sent_valid, valid_sent}
@@ -224,9 +224,19 @@ module _ (d : Dictionary) (c : ℕ) (command : PlainDefinition) (at : slice_get 
         let same_price = price_same command.rules keys all in
         omega (arith, low, own, same_price)
 
+-- a message is a header of 20 bytes, and a body
+head_size : (h : Header) (vs : List PlainAvp) (b : List ℕ) (m : IsMessage h vs b) → length m.head ≡ 20
+head_size h vs b m =
+    let s = m.is_head in
+    let e1 = length-append ((1 ∷ s.len) ++ (h.flags ∷ s.code) ++ s.app ++ s.hop) s.e2e in
+    let e2 = length-append ((1 ∷ s.len) ++ (h.flags ∷ s.code) ++ s.app) s.hop in
+    let e3 = length-append ((1 ∷ s.len) ++ (h.flags ∷ s.code)) s.app in
+    let e4 = length-append (1 ∷ s.len) (h.flags ∷ s.code) in
+    ap length s.parts ∙ omega (arith, e1, e2, e3, e4, s.length_field.width, s.code_field.width, s.app_field.width, s.hop_field.width, s.e2e_field.width)
+
 -- what the bodies of messages take at most
-body_within : (h : Header) (vs : List PlainAvp) (b : List ℕ) (m : IsMessage h vs b) → AreBytes b → (n : ℕ) → 20 + n ≤ length b → n < too_long
-body_within h vs b m all n low =
+pub body_short : (h : Header) (vs : List PlainAvp) (b : List ℕ) (m : IsMessage h vs b) → AreBytes b → length m.body < too_long
+body_short h vs b m all =
     let s = m.is_head in
     let whole = subst AreBytes m.parts all in
     let head = subst AreBytes s.parts (all_parts IsByte m.head m.body whole).0 in
@@ -235,14 +245,25 @@ body_within h vs b m all n low =
     let second = (all_parts IsByte ((1 ∷ s.len) ++ (h.flags ∷ s.code)) s.app third).0 in
     let first = (all_parts IsByte (1 ∷ s.len) (h.flags ∷ s.code) second).0 in
     let less = three_small (length b) s.len s.length_field first.1 in
-    let e1 = length-append ((1 ∷ s.len) ++ (h.flags ∷ s.code) ++ s.app ++ s.hop) s.e2e in
-    let e2 = length-append ((1 ∷ s.len) ++ (h.flags ∷ s.code) ++ s.app) s.hop in
-    let e3 = length-append ((1 ∷ s.len) ++ (h.flags ∷ s.code)) s.app in
-    let e4 = length-append (1 ∷ s.len) (h.flags ∷ s.code) in
-    let head_size : length m.head ≡ 20 = ap length s.parts ∙ omega (arith, e1, e2, e3, e4, s.length_field.width, s.code_field.width, s.app_field.width, s.hop_field.width, s.e2e_field.width) in
+    let size = head_size h vs b m in
     let all_size : length b ≡ length m.head + length m.body = ap length m.parts ∙ length-append m.head m.body in
     let step = aligned vs m.body m.is_body in
-    omega (arith, less, head_size, all_size, step, low)
+    omega (arith, less, size, all_size, step)
+
+body_within : (h : Header) (vs : List PlainAvp) (b : List ℕ) (m : IsMessage h vs b) → AreBytes b → (n : ℕ) → 20 + n ≤ length b → n < too_long
+body_within h vs b m all n low =
+    let short = body_short h vs b m all in
+    let size = head_size h vs b m in
+    let all_size : length b ≡ length m.head + length m.body = ap length m.parts ∙ length-append m.head m.body in
+    omega (arith, short, size, all_size, low)
+
+-- what is valid is sent
+pub sent_stand : (u : Unknown) (rules : List DRule) (keys : List Key) → Placed rules keys → StandAsSent (sender_of u) rules keys
+sent_stand u rules keys placed = (same_of u rules keys).1 placed
+
+pub sent_avps : (d : Dictionary) (u : Unknown) (avps : List PlainAvp) → AllFit d u levels.Any avps → AreSentAvps d (sender_of u) avps
+sent_avps d Kept avps (n, all) = (n, all_map (Fits d Kept n) (IsSentWithin d Any n) avps (λ v k. sent d Any (same_of Kept) n v k) all)
+sent_avps d Refused avps (n, all) = (n, all_map (Fits d Refused n) (IsSentWithin d Known n) avps (λ v k. sent d Known (same_of Refused) n v k) all)
 
 module _ (d : Dictionary) (u : Unknown) (lengths : List ℕ) (others : List Key) (is : IsDictionary d) (are : AreLengths d (sender_of u) lengths others) where
   others_same : (key : Key) → other_length d (sender_of u) lengths key ≡ length_of d (sender_of u) lengths key

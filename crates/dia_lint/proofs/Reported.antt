@@ -50,17 +50,17 @@ none_reported is old x other =
 
 -- ---- what is gathered
 
-gathered_in : (part : ℕ → List ℕ) (n x : ℕ) → Contains (gathered part n) x → (i : ℕ) × (i < n) × Contains (part i) x
+pub gathered_in : {X : Type 0} (part : ℕ → List X) (n : ℕ) (x : X) → Contains (gathered part n) x → (i : ℕ) × (i < n) × Contains (part i) x
 gathered_in part zero x (k, lt, e) = absurd (omega (arith, lt))
-gathered_in part (suc n) x h = by (gathered_in part n x) (Contains-append_cases (gathered part n) (part n) x h)
+gathered_in {X} part (suc n) x h = by (gathered_in part n x) (Contains-append_cases (gathered part n) (part n) x h)
   where
     by : (Contains (gathered part n) x → (i : ℕ) × (i < n) × Contains (part i) x) → Contains (gathered part n) x ⊎ Contains (part n) x → (i : ℕ) × (i < suc n) × Contains (part i) x
     by ih (inl c) = let (i, lt, own) = ih c in (i, omega (arith, lt), own)
     by ih (inr c) = (n, omega arith, c)
 
-in_gathered : (part : ℕ → List ℕ) (n i x : ℕ) → i < n → Contains (part i) x → Contains (gathered part n) x
+pub in_gathered : {X : Type 0} (part : ℕ → List X) (n i : ℕ) (x : X) → i < n → Contains (part i) x → Contains (gathered part n) x
 in_gathered part zero i x lt c = absurd (omega (arith, lt))
-in_gathered part (suc n) i x lt c = by (λ less. in_gathered part n i x less c) (cases_lt i n)
+in_gathered {X} part (suc n) i x lt c = by (λ less. in_gathered part n i x less c) (cases_lt i n)
   where
     by : (i < n → Contains (gathered part n) x) → (i < n) ⊎ (n ≤ i) → Contains (gathered part n ++ part n) x
     by ih (inl less) = Contains-append_left (gathered part n) (part n) x (ih less)
@@ -247,7 +247,7 @@ module _ (d : Dictionary) (lengths : List ℕ) where
       test false is le = let lt = leb-false too_long (entry_length lengths e) is in absurd (omega (arith, le, lt))
 
 -- an entry is the first with its key
-own_place : (d : Dictionary) (e : ℕ) (entry : DictEntry) → IsDictionary d → slice_get d.entries e ≡ Some entry → entry_of d entry.key ≡ Some e
+pub own_place : (d : Dictionary) (e : ℕ) (entry : DictEntry) → IsDictionary d → slice_get d.entries e ≡ Some entry → entry_of d entry.key ≡ Some e
 own_place d e entry is at =
     let (i, found) = some_of (entry_of d entry.key) (position-is_some (λ (x : DictEntry). same_key entry.key x.key) d.entries e entry at (same_key-refl entry.key)) in
     let h = entry_at d entry.key i found in

@@ -7,10 +7,13 @@ pub mod Firsts
 pub mod Gathered
 pub mod GuidelineLines
 pub mod Guidelines
+pub mod Held
 pub mod LevelParts
 pub mod Overlaps
 pub mod OwnRules
 pub mod Pairs
 pub mod SameVerdicts
 pub mod TwiceListed
+pub mod WayLines
+pub mod Ways
 pub mod Words

@@ -6,16 +6,20 @@ ghost use Rattle.dia_breaking_shortest.specs.Lengths.{entry_length};
 ghost use Rattle.dia_lint.specs.Costs.{level_of, sender_of};
 ghost use Rattle.dia_lint.specs.Exact.{AreAscending, AreOfMessages, NoLevelIsExact, NoMessageIsExact, OthersHaveAvps};
 ghost use Rattle.dia_lint.specs.Exact.{OthersHaveMessages, is_no_level, is_no_message, is_of_messages, reported};
-ghost use Rattle.dia_lint.specs.Gathered.{Adds, IsAside, long_command, long_commands, long_group, long_groups};
+ghost use Rattle.dia_lint.specs.Gathered.{Adds, IsAside, gathered, long_command, long_commands, long_group, long_groups, ways_in};
+ghost use Rattle.dia_lint.specs.Held.{NeverHeldIsTrue, NeverListedIsTrue, NeverStandsIsTrue, NoOthersIsTrue};
+ghost use Rattle.dia_lint.specs.WayLines.{command_part, definition_part, group_part, rule_length, rules_part, stands_part};
+ghost use Rattle.dia_lint.specs.Ways.{side_of};
 
-use crate::books::{command_at, group_of};
+use crate::books::{command_at, group_of, rules_of};
 use crate::costs::Lengths;
 use crate::detail::Detail;
 use crate::finding::{Finding, Place, Subject, push};
-use crate::levels::LevelCost;
+use crate::levels::{LevelCost, has_no_level};
 use crate::own_rules::named;
 use crate::reached::{Reached, has_room};
 use crate::rule::Rule;
+use crate::unreached::push_unreached;
 use dia_book::{Book, DRule, DefHead, DefId, Entry, Key};
 use dia_breaking_levels::TOO_LONG;
 use dia_terms::{Sends, Unknown};
@@ -35,6 +39,10 @@ pub fn exact_findings<B: Book>(
     ensures others_have_avps { IfOk result (λ found. OthersHaveAvps (B.meaning book.now) unknown found.items) }
     ensures messages_once { IfOk result (λ found. AreAscending (reported is_no_message found.items)) }
     ensures levels_once { IfOk result (λ found. AreAscending (reported is_no_level found.items)) }
+    ensures never_held { IfOk result (λ found. NeverHeldIsTrue (B.meaning book.now) unknown found.items) }
+    ensures never_listed { IfOk result (λ found. NeverListedIsTrue (B.meaning book.now) found.items) }
+    ensures never_stands { IfOk result (λ found. NeverStandsIsTrue (B.meaning book.now) unknown found.items) }
+    ensures no_others { IfOk result (λ found. NoOthersIsTrue (B.meaning book.now) unknown found.items) }
 {
     let lengths = Lengths::new(alloc, book, sender_of(unknown))?;
     let reached = Reached::of(alloc, &lengths)?;
@@ -55,35 +63,15 @@ fn sender_of(unknown: Unknown) -> Sends
     }
 }
 
-/// Adds the AVPs that no message has, and those that only wildcards let in, if there is a command.
-fn push_unreached<B: Book>(
-    alloc: Global,
-    found: &mut Vec<Finding>,
-    lengths: &Lengths<'_, B>,
-    reached: &Reached,
-) -> Result<(), AllocError>
-    ensures { OnOk result (Adds [] [] found.old.items found.new.items) }
-{
-    if lengths.book.commands() == 0 {
-        return Ok(());
-    }
-    let listed = reached_by_rules(alloc, lengths.book)?;
-    push_avps(found, lengths, reached, &listed)
-}
-
-/// What messages have in which each AVP comes by a rule of its own.
-fn reached_by_rules<B: Book>(alloc: Global, book: &B) -> Result<Reached, AllocError> {
-    let lengths = Lengths::new(alloc, book, Sends::Listed)?;
-    Reached::of(alloc, &lengths)
-}
-
 fn push_groups<B: Book>(
     found: &mut Vec<Finding>,
     lengths: &Lengths<'_, B>,
     reached: &Reached,
 ) -> Result<(), AllocError>
     ensures { OnOk result (Adds [] (long_groups (B.meaning lengths.now.book.now) lengths.now.least.lengths.items
-        (length (B.meaning lengths.now.book.now).entries)) found.old.items found.new.items) }
+        (length (B.meaning lengths.now.book.now).entries))
+        (gathered (group_part (side_of B.meaning lengths.now) reached.now) (length (B.meaning lengths.now.book.now).entries))
+        found.old.items found.new.items) }
 {
     for index in 0..lengths.book.entries() {
         push_group(found, lengths, reached, lengths.book.entry_at(index))?;
@@ -100,12 +88,12 @@ fn push_group<B: Book>(
 ) -> Result<(), AllocError>
     requires { entry < length (B.meaning lengths.now.book.now).entries }
     ensures { OnOk result (Adds [] (long_group (B.meaning lengths.now.book.now) lengths.now.least.lengths.items entry)
-        found.old.items found.new.items) }
+        (group_part (side_of B.meaning lengths.now) reached.now entry) found.old.items found.new.items) }
 {
     match group_of(lengths.book, entry) {
         Some(def) => {
             push(found, no_level(lengths, entry, def))?;
-            push_reached(found, lengths, def, reached.way_to_group(entry))
+            push_reached(found, lengths, def, reached.way(entry.index()))
         }
         None => Ok(()),
     }
@@ -117,6 +105,7 @@ fn no_level<B: Book>(lengths: &Lengths<'_, B>, entry: Entry, def: DefId) -> Opti
     ensures messages { reported is_no_message (option_to_list result) ≡ [] }
     ensures levels { reported is_no_level (option_to_list result) ≡
         (if nat_le too_long (entry_length lengths.now.least.lengths.items entry) then def ∷ [] else []) }
+    ensures ways { ways_in (option_to_list result) ≡ [] }
     ensures rule { IfSome result (λ x. is_of_messages x.rule ≡ true) }
 {
     if has_no_level(lengths, entry) {
@@ -124,13 +113,6 @@ fn no_level<B: Book>(lengths: &Lengths<'_, B>, entry: Entry, def: DefId) -> Opti
     } else {
         None
     }
-}
-
-/// Whether no AVP of the group fits.
-fn has_no_level<B: Book>(lengths: &Lengths<'_, B>, entry: Entry) -> bool
-    ensures { result ≡ nat_le too_long (entry_length lengths.now.least.lengths.items entry) }
-{
-    lengths.least.entry(entry) >= TOO_LONG
 }
 
 fn push_commands<B: Book>(
@@ -142,6 +124,7 @@ fn push_commands<B: Book>(
         (level_of (B.meaning lengths.now.book.now) lengths.now.least.sends lengths.now.least.lengths.items
         lengths.now.others.items)
         (length (groups (B.meaning lengths.now.book.now))) (length (B.meaning lengths.now.book.now).commands)) []
+        (gathered (command_part (side_of B.meaning lengths.now) reached.now) (length (B.meaning lengths.now.book.now).commands))
         found.old.items found.new.items) }
 {
     for index in 0..lengths.book.commands() {
@@ -161,11 +144,17 @@ fn push_command<B: Book>(
     ensures { OnOk result (Adds (long_command
         (level_of (B.meaning lengths.now.book.now) lengths.now.least.sends lengths.now.least.lengths.items
         lengths.now.others.items)
-        (length (groups (B.meaning lengths.now.book.now))) index) [] found.old.items found.new.items) }
+        (length (groups (B.meaning lengths.now.book.now))) index) []
+        (command_part (side_of B.meaning lengths.now) reached.now index) found.old.items found.new.items) }
 {
     let def = command_at(lengths.book, index);
     push(found, no_message(lengths, def))?;
-    push_reached(found, lengths, def, reached.way_to_command(index))
+    push_reached(
+        found,
+        lengths,
+        def,
+        reached.way(lengths.book.entries() + index),
+    )
 }
 
 /// The finding of a command without a valid message.
@@ -176,6 +165,7 @@ fn no_message<B: Book>(lengths: &Lengths<'_, B>, def: DefId) -> Option<Finding>
         lengths.now.others.items def)
         then def ∷ [] else []) }
     ensures levels { reported is_no_level (option_to_list result) ≡ [] }
+    ensures ways { ways_in (option_to_list result) ≡ [] }
     ensures rule { IfSome result (λ x. is_of_messages x.rule ≡ true) }
 {
     if LevelCost::of(lengths, def).base >= TOO_LONG {
@@ -230,7 +220,9 @@ fn is_of(head: DefHead, key: Key) -> bool {
 }
 
 /// The length of a shortest AVP of the rule, where `filler` is that of one that no rule lists.
-fn length_of<B: Book>(lengths: &Lengths<'_, B>, filler: u64, rule: &DRule) -> u64 {
+fn length_of<B: Book>(lengths: &Lengths<'_, B>, filler: u64, rule: &DRule) -> u64
+    ensures { result ≡ rule_length (side_of B.meaning lengths.now) filler rule.now }
+{
     match rule.key {
         Some(key) => lengths.key(key),
         None => filler,
@@ -245,7 +237,7 @@ fn push_reached<B: Book>(
     way: Option<u64>,
 ) -> Result<(), AllocError>
     requires { def < length (definitions (B.meaning lengths.now.book.now)) }
-    ensures { OnOk result (Adds [] [] found.old.items found.new.items) }
+    ensures { OnOk result (Adds [] [] (definition_part (side_of B.meaning lengths.now) def way) found.old.items found.new.items) }
 {
     match way {
         Some(way) => push_rules(found, lengths, def, way),
@@ -261,10 +253,10 @@ fn push_rules<B: Book>(
     way: u64,
 ) -> Result<(), AllocError>
     requires { def < length (definitions (B.meaning lengths.now.book.now)) }
-    ensures { OnOk result (Adds [] [] found.old.items found.new.items) }
+    ensures { OnOk result (Adds [] [] (rules_part (side_of B.meaning lengths.now) def way) found.old.items found.new.items) }
 {
     let cost = LevelCost::of(lengths, def);
-    let rules = &lengths.book.def(def).rules;
+    let rules = rules_of(lengths.book, def);
     for index in 0..rules.len() {
         push(
             found,
@@ -290,7 +282,8 @@ fn never_stands<B: Book>(
     def: DefId,
     rule: &DRule,
 ) -> Option<Finding>
-    ensures { IsAside result }
+    ensures aside { IsAside result }
+    ensures ways { ways_in (option_to_list result) ≡ stands_part (side_of B.meaning lengths.now) cost.now def way rule.now }
 {
     let length = length_of(lengths, cost.filler, rule);
     if rule.max == Some(0) || has_room(way, cost.with(rule, length)) {
@@ -310,56 +303,5 @@ fn why_never(rule: &DRule, length: u64) -> Detail {
         Some(key) if length >= TOO_LONG => Detail::ThereIsNo(key),
         Some(_) => Detail::NoRoom,
         None => Detail::NoneLeft,
-    }
-}
-
-/// Adds the AVPs that no message has, and those that messages have only where a wildcard lets them in.
-fn push_avps<B: Book>(
-    found: &mut Vec<Finding>,
-    lengths: &Lengths<'_, B>,
-    reached: &Reached,
-    listed: &Reached,
-) -> Result<(), AllocError>
-    ensures { OnOk result (Adds [] [] found.old.items found.new.items) }
-{
-    for index in 0..lengths.book.entries() {
-        push(
-            found,
-            avp_finding(lengths, reached, listed, lengths.book.entry_at(index)),
-        )?;
-    }
-    Ok(())
-}
-
-/// The finding of an AVP, unless it is a group of which no AVP fits.
-fn avp_finding<B: Book>(
-    lengths: &Lengths<'_, B>,
-    reached: &Reached,
-    listed: &Reached,
-    entry: Entry,
-) -> Option<Finding>
-    requires { entry < length (B.meaning lengths.now.book.now).entries }
-    ensures { IsAside result }
-{
-    if group_of(lengths.book, entry).is_some() && has_no_level(lengths, entry) {
-        return None;
-    }
-    if !reached.has(entry) {
-        return Some(about_avp(entry, Rule::NeverHeld, Detail::NotHeld));
-    }
-    if !listed.has(entry) {
-        return Some(about_avp(entry, Rule::NeverListed, Detail::OnlyWildcards));
-    }
-    None
-}
-
-fn about_avp(entry: Entry, rule: Rule, detail: Detail) -> Finding
-    ensures { result.rule ≡ rule }
-{
-    Finding {
-        rule,
-        place: Place::Avp(entry),
-        subject: Subject::Avp(entry),
-        detail,
     }
 }

@@ -23,6 +23,7 @@ mod reached;
 mod rule;
 mod same_commands;
 mod twice;
+mod unreached;
 
 pub use base_avps::BaseAvp;
 pub use base_table::BaseRow;

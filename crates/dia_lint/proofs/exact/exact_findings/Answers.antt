@@ -1,14 +1,27 @@
 use Rattle.std.proofs.Common.{length, ap, subst, ◌∙◌}
-use Rattle.dia_book.specs.Dictionary.{groups}
+use Rattle.dia_book.specs.Dictionary.{Dictionary, groups}
 use Rattle.dia_terms.specs.declared.Sends.{Sends}
 use Rattle.dia_lint.specs.Costs.{AreLengths, level_of, sender_of}
+use Rattle.dia_lint.specs.Gathered.{gathered}
+use Rattle.dia_lint.specs.Held.{NeverHeldIsTrue, NeverListedIsTrue, NeverStandsIsTrue, NoOthersIsTrue}
+use Rattle.dia_lint.specs.WayLines.{command_part, group_part}
+use Rattle.dia_lint.specs.Ways.{side_of}
 use Rattle.dia_lint.proofs.ExactFindings.{AreReported, all_reported}
+use Rattle.dia_lint.proofs.FoundWays.{of_side}
 use Rattle.dia_lint.proofs.Reported.{commands_ascend, commands_exact, groups_ascend, groups_exact, others_have_avps, others_have_messages}
+use Rattle.dia_lint.proofs.WayTruths.{never_held, never_listed, never_stands, no_others, unreached}
 use Rattle.dia_lint.proofs.exact.exact_findings.Goals as goal
+
+pub of-requires : goal.of-requires
+of-requires g c =
+    let made = c.in_ok-lengths.lengths in
+    of_side (side_of g.B.Book.meaning made) (g.B.Book.meaning c.args.book.now) c.sender_of.result c.in_ok-lengths.ensures.lengths (ap g.B.Book.meaning c.in_ok-lengths.ensures.book)
+    c.in_ok-lengths.ensures.sends
 
 pub returns : goal.returns
 returns g c =
     let d = g.B.Book.meaning c.args.book.now in
+    let u = c.args.unknown in
     let made = c.in_ok-lengths.lengths in
     let lengths = made.least.lengths.items in
     let others = made.others.items in
@@ -16,15 +29,27 @@ returns g c =
     let is = g.met.B.Book.sound c.args.book.now in
     let are = subst (λ (s : Sends). AreLengths d s lengths others) c.sender_of.ensures c.in_ok-lengths.ensures.lengths in
     let sends = c.in_ok-lengths.ensures.sends ∙ c.sender_of.ensures in
-    let all : AreReported d (sender_of c.args.unknown) lengths others found =
-    all_reported d (g.B.Book.meaning made.book.now) c.args.unknown made.least.sends lengths others c.new-found.result.items c.push_groups.new.found.items c.push_commands.new.found.items found
-    (ap g.B.Book.meaning c.in_ok-lengths.ensures.book) sends c.new-found.ensures.items c.in_ok-push_groups.ensures c.in_ok-push_commands.ensures c.in_ok-push_unreached.ensures in
+    let book = ap g.B.Book.meaning c.in_ok-lengths.ensures.book in
+    let s = side_of g.B.Book.meaning made in
+    let reached = c.in_ok-reached.reached in
+    let first = gathered (group_part s reached) (length s.book.entries) in
+    let second = gathered (command_part s reached) (length s.book.commands) in
+    let last = unreached s reached c.push_commands.new.found.items found c.in_ok-push_unreached.ensures in
+    let both = all_reported d s.book u made.least.sends lengths others first second last.ways c.new-found.result.items c.push_groups.new.found.items c.push_commands.new.found.items found
+    book sends c.new-found.ensures.items c.in_ok-push_groups.ensures c.in_ok-push_commands.ensures last.adds in
+    let all : AreReported d (sender_of c.args.unknown) lengths others found = both.0 in
+    let sound = g.met.B.Book.sound made.book.now in
+    let own = of_side s d (sender_of u) are book sends in
     record {
       rules = all.2;
-      no_message = commands_exact d c.args.unknown lengths others found is are all.0;
-      no_level = groups_exact d c.args.unknown lengths others found is are all.1;
-      others_have_messages = others_have_messages d c.args.unknown lengths others found is are all.0;
-      others_have_avps = others_have_avps d c.args.unknown lengths others found is are all.1;
+      no_message = commands_exact d u lengths others found is are all.0;
+      no_level = groups_exact d u lengths others found is are all.1;
+      others_have_messages = others_have_messages d u lengths others found is are all.0;
+      others_have_avps = others_have_avps d u lengths others found is are all.1;
       messages_once = commands_ascend (level_of d (sender_of c.args.unknown) lengths others) (length (groups d)) (length d.commands) found all.0;
       levels_once = groups_ascend d lengths (length d.entries) found all.1;
+      never_held = subst (λ (b : Dictionary). NeverHeldIsTrue b u found) book (never_held u s sound own reached c.in_ok-reached.ensures sends last.ways found both.1 last.are);
+      never_listed = subst (λ (b : Dictionary). NeverListedIsTrue b found) book (never_listed u s sound own reached c.in_ok-reached.ensures sends last.ways found both.1 last.are);
+      never_stands = subst (λ (b : Dictionary). NeverStandsIsTrue b u found) book (never_stands u s sound own reached c.in_ok-reached.ensures sends last.ways found both.1 last.are);
+      no_others = subst (λ (b : Dictionary). NoOthersIsTrue b u found) book (no_others u s sound own reached c.in_ok-reached.ensures sends last.ways found both.1 last.are);
     }

@@ -1,0 +1,9 @@
+use Rattle.std.proofs.Common.{ap, ◌∙◌}
+use Rattle.std.specs.Prelude.{is_some}
+use Rattle.dia_book.specs.Dictionary.{lists_key}
+use Rattle.dia_book.proofs.Members.{find-is_some}
+use Rattle.dia_valid.specs.Rules.{rules_in}
+use Rattle.dia_lint.proofs.books.lists.Goals as goal
+
+pub returns : goal.returns
+returns g c = c.is_some.ensures ∙ ap (λ o. is_some o) c.rule_of.ensures ∙ find-is_some (lists_key c.args.key) (rules_in (g.B.Book.meaning c.args.book.now) c.args.def)

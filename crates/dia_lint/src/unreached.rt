@@ -1,0 +1,103 @@
+//! What AVPs no valid message has.
+ghost use Rattle.std.specs.Prelude.{◌≡◌, ◌<◌, [], length, IfOk, OnOk, option_to_list};
+ghost use Rattle.dia_lint.specs.Gathered.{Adds, IsAside, gathered, ways_in};
+ghost use Rattle.dia_lint.specs.WayLines.{AddsUnreached, IsListedReached, avp_part, is_long_group};
+ghost use Rattle.dia_lint.specs.Ways.{side_of};
+
+use crate::books::group_of;
+use crate::costs::Lengths;
+use crate::detail::Detail;
+use crate::finding::{Finding, Place, Subject, push};
+use crate::levels::has_no_level;
+use crate::reached::Reached;
+use crate::rule::Rule;
+use dia_book::{Book, Entry};
+use dia_terms::Sends;
+use std::alloc::{AllocError, Global};
+
+/// Adds the AVPs that no message has, and those that only wildcards let in, if there is a command.
+pub(crate) fn push_unreached<B: Book>(
+    alloc: Global,
+    found: &mut Vec<Finding>,
+    lengths: &Lengths<'_, B>,
+    reached: &Reached,
+) -> Result<(), AllocError>
+    ensures { OnOk result (AddsUnreached (side_of B.meaning lengths.now) reached.now found.old.items found.new.items) }
+{
+    if lengths.book.commands() == 0 {
+        return Ok(());
+    }
+    let listed = reached_by_rules(alloc, lengths.book)?;
+    push_avps(found, lengths, reached, &listed)
+}
+
+/// What messages have in which each AVP comes by a rule of its own.
+fn reached_by_rules<B: Book>(alloc: Global, book: &B) -> Result<Reached, AllocError>
+    ensures { IfOk result (IsListedReached (B.meaning book.now)) }
+{
+    let lengths = Lengths::new(alloc, book, Sends::Listed)?;
+    Reached::of(alloc, &lengths)
+}
+
+/// Adds the AVPs that no message has, and those that messages have only where a wildcard lets them in.
+fn push_avps<B: Book>(
+    found: &mut Vec<Finding>,
+    lengths: &Lengths<'_, B>,
+    reached: &Reached,
+    listed: &Reached,
+) -> Result<(), AllocError>
+    ensures { OnOk result (Adds [] [] (gathered (avp_part (side_of B.meaning lengths.now) reached.now listed.now)
+        (length (B.meaning lengths.now.book.now).entries)) found.old.items found.new.items) }
+{
+    for index in 0..lengths.book.entries() {
+        push(
+            found,
+            avp_finding(lengths, reached, listed, lengths.book.entry_at(index)),
+        )?;
+    }
+    Ok(())
+}
+
+/// The finding of an AVP, unless it is a group of which no AVP fits.
+fn avp_finding<B: Book>(
+    lengths: &Lengths<'_, B>,
+    reached: &Reached,
+    listed: &Reached,
+    entry: Entry,
+) -> Option<Finding>
+    requires { entry < length (B.meaning lengths.now.book.now).entries }
+    ensures aside { IsAside result }
+    ensures ways { ways_in (option_to_list result)
+        ≡ avp_part (side_of B.meaning lengths.now) reached.now listed.now entry }
+{
+    if is_long_group(lengths, entry) {
+        return None;
+    }
+    if !reached.has(entry) {
+        return Some(about_avp(entry, Rule::NeverHeld, Detail::NotHeld));
+    }
+    if !listed.has(entry) {
+        return Some(about_avp(entry, Rule::NeverListed, Detail::OnlyWildcards));
+    }
+    None
+}
+
+/// Whether it is a group of which no AVP fits.
+fn is_long_group<B: Book>(lengths: &Lengths<'_, B>, entry: Entry) -> bool
+    requires { entry < length (B.meaning lengths.now.book.now).entries }
+    ensures { result ≡ is_long_group (side_of B.meaning lengths.now) entry }
+{
+    group_of(lengths.book, entry).is_some() && has_no_level(lengths, entry)
+}
+
+fn about_avp(entry: Entry, rule: Rule, detail: Detail) -> Finding
+    ensures rule { result.rule ≡ rule }
+    ensures subject { result.subject ≡ Subject.Avp entry }
+{
+    Finding {
+        rule,
+        place: Place::Avp(entry),
+        subject: Subject::Avp(entry),
+        detail,
+    }
+}
