@@ -3,7 +3,6 @@
 A level is a count for each key, so its least length under a condition is a sum of least lengths, with the cheapest AVPs for
 what a wildcard asks. Counts are small here, and definitions begin a line each. Messages are told apart by their lengths."""
 
-import heapq
 import itertools
 import math
 import re
@@ -367,31 +366,47 @@ class Model:
             else:
                 if command.proxiable != b.proxiable:
                     found[path, "proxiable", None] = (f"P {'set' if command.proxiable else 'clear'} sent", 20 + self.least(command))
-                starts.append((0, len(starts), path, command, b))
-        seen, queue, order = set(), starts, itertools.count(len(starts))
-        heapq.heapify(queue)
+                starts.append((path, b))
         best = {}
-        while queue:
-            way, _, path, a, b = heapq.heappop(queue)
-            if (id(a), id(b)) in seen:
-                continue
-            seen.add((id(a), id(b)))
-            for reason, key, detail, length in self.level_lines(a, b):
-                self.add(best, (id(b), reason, key), path, detail, 20 + way + length)
-            for key in [rule.key for rule in a.rules if rule.key is not None] + self.strangers(a):
-                level = self.with_keys(a, {key: 1}) - self.cost[key]
-                if not level < math.inf:
-                    continue
-                for reason, detail, length in self.own_lines(key):
-                    self.add(best, (None, reason, key), path, detail, 20 + way + level + length)
-                if self.meaning(key):
-                    self.add(best, (None, "meaning", key), path, self.meaning(key), 20 + way + level + self.cost[key])
-                groups = [d.entries[key].group for d in (self.a, self.b) if key in d.entries]
-                if len(groups) == 2 and all(groups):
-                    heapq.heappush(queue, (way + level + head(key), next(order), f"{path}/{self.name(key)}", *groups))
+        for path, b in starts:
+            self.add_levels(best, path, 0, command, b)
+        levels, reached = self.walk(starts[0][0], command) if starts else ([], {})
+        for path, way, a, key in levels[1:]:
+            self.add_levels(best, path, way, a, self.b.entries[key].group)
+        for key, (way, _, level) in reached.items():
+            path, beside = levels[level][0], 20 + way - self.cost[key]
+            for reason, detail, length in self.own_lines(key):
+                self.add(best, (None, reason, key), path, detail, beside + length)
+            if self.meaning(key):
+                self.add(best, (None, "meaning", key), path, self.meaning(key), 20 + way)
         for (_, reason, key), (path, detail, length) in best.items():
             found[path, reason, key] = (detail, length)
         return found
+
+    def walk(self, start, command):
+        """The levels that both sides read, in the order of their lines: path, what is around one, definition of A, and key. And for
+        each key the first of its shortest ways: its length, whether it goes through a wildcard, and the number of its level."""
+        keys = [*self.a.entries, *(key for key in self.keys if key not in self.a.entries)]
+        levels, reached, wild = [(start, 0, command, None)], {}, [False]
+        groups = [key for key in keys if all(key in d.entries and d.entries[key].group for d in (self.a, self.b))]
+        for number in itertools.count():
+            path, way, a, _ = levels[number]
+            for key in [rule.key for rule in a.rules if rule.key is not None] + self.strangers(a):
+                found = (way + self.with_keys(a, {key: 1}), wild[number] or not a.rule(key), number)
+                if 20 + found[0] <= LONGEST and (key not in reached or found < reached[key]):
+                    reached[key] = found
+            left = [(reached[key][0] - self.cost[key] + head(key), keys.index(key), key) for key in groups if key in reached]
+            if not left:
+                return levels, reached
+            way, _, key = min(left)
+            groups.remove(key)
+            _, is_wild, outer = reached[key]
+            levels.append((f"{levels[outer][0]}/{self.name(key)}", way, self.a.entries[key].group, key))
+            wild.append(is_wild)
+
+    def add_levels(self, best, path, way, a, b):
+        for reason, key, detail, length in self.level_lines(a, b):
+            self.add(best, (id(b), reason, key), path, detail, 20 + way + length)
 
     def add(self, best, key, path, detail, length):
         if length <= LONGEST and (key not in best or length < best[key][2]):

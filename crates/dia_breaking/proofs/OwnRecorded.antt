@@ -15,7 +15,7 @@ use Rattle.dia_breaking_avps.specs.Breaks.{IsHeadBreak, RefusesFlag}
 use Rattle.dia_breaking_avps.specs.declared.breaking.HeadBreak.{HeadBreak}
 use Rattle.dia_breaking_avps.specs.declared.breaking.HeadBreak.TheVariants as head_breaks
 use Rattle.dia_breaking_levels.specs.declared.line.Line.{Line as LevelLine}
-use Rattle.dia_breaking_ways.specs.Walks.{Graph, HasExits, IsReached, IsWalk, PlainLevel, Stage, level_of, stage_at, stage_of}
+use Rattle.dia_breaking_ways.specs.Walks.{Graph, HasExits, IsReached, IsWalk, PlainLevel, Stage, level_of, stage_at, stage_by, stage_of}
 use Rattle.dia_breaking_ways.specs.declared.graph.Reach.{Reach}
 use Rattle.dia_breaking_ways.specs.declared.graph.Step.{Step}
 use Rattle.dia_breaking.specs.declared.exits.Outlook.{Outlook}
@@ -60,16 +60,16 @@ RefusesRecorded s cause = ⊤
 -- ---- the levels that a walk leads to
 
 stage_exits : (graph : Graph) (steps : List Step) (number : ℕ) (stage : Stage) → stage_at graph steps number ≡ Some stage → HasExits graph stage.exits
-stage_exits graph steps zero stage is = inl (ap (λ (s : Stage). s.exits) (sym (same_Some (record { way = 0; exits = graph.start }) stage is)))
+stage_exits graph steps zero stage is = inl (ap (λ (s : Stage). s.exits) (sym (same_Some (record { way = 0; wild = false; exits = graph.start }) stage is)))
 stage_exits graph steps (suc i) stage is = by_step (slice_get steps i) is
   where
-    by_level : (step : Step) (o : Option PlainLevel) → level_of graph step.place ≡ o → option_map (λ (level : PlainLevel). let s : Stage = record { way = step.way; exits = level.exits } in s) o ≡ Some stage
+    by_level : (step : Step) (o : Option PlainLevel) → level_of graph step.place ≡ o → option_map (stage_by step) o ≡ Some stage
         → HasExits graph stage.exits
     by_level step None at e = absurd (none-some stage e)
     by_level step (Some level) at e =
-        inr (step.place, level, at, ap (λ (s : Stage). s.exits) (sym (same_Some (record { way = step.way; exits = level.exits }) stage e)))
+        inr (step.place, level, at, ap (λ (s : Stage). s.exits) (sym (same_Some (stage_by step level) stage e)))
 
-    by_step : (o : Option Step) → option_and_then (λ (step : Step). stage_of graph step.place step.way) o ≡ Some stage → HasExits graph stage.exits
+    by_step : (o : Option Step) → option_and_then (stage_of graph) o ≡ Some stage → HasExits graph stage.exits
     by_step None e = absurd (none-some stage e)
     by_step (Some step) e = by_level step (level_of graph step.place) refl e
 
@@ -237,7 +237,7 @@ module _ (da db : Dictionary) (who : Sends) (u : Unknown) (made : Facts) (start 
       → listed_length da who made.lengths one.key ≤ max_body
   has_room place one reach at is_reach =
       let walk = walk_is place reach is_reach in
-      let reached : IsReached basis.graph listing.steps place reach.level reach.length = (walk.shortest place (Some reach) is_reach).0 in
+      let reached : IsReached basis.graph listing.steps place reach.level reach.length reach.wild = (walk.shortest place (Some reach) is_reach).0 in
       let (outlook, here, same) = outlook_at place one at in
       let from_here = stage_exits basis.graph listing.steps reach.level reached.stage reached.is_stage in
       let low = lead_takes da db who u made.lengths made.others made.recording made.outlooks facts.is_recording facts.are_outlooks (rules_in da c) is_start.exits basis.graph.start reached.stage.exits max_body

@@ -1,6 +1,6 @@
 -- In messages that are sent each level that both sides read is reached, and so are its AVPs.
 use Rattle.std.proofs.Common.{◌≡◌, ℕ, zero, suc, ◌+◌, ◌-◌, ◌<◌, ◌≤◌, List, [], ◌∷◌, ◌++◌, length, map, Option, Some, None, refl, sym, ap, subst, ◌∙◌, arith, inl, inr}
-use Rattle.std.specs.Prelude.{false, is_some, IsSome, MatchOption, Contains, slice_get, option_and_then}
+use Rattle.std.specs.Prelude.{Bool, false, ◌||◌, is_some, IsSome, MatchOption, Contains, slice_get, option_and_then}
 use Rattle.std.specs.List.{AllByRecursion}
 use Rattle.std.specs.Option.{option_map, option_map_or}
 use Rattle.std.proofs.lemmas.Option.{none-some, slice_get_within}
@@ -26,7 +26,7 @@ use Rattle.dia_breaking_sites.proofs.Members.{in_all}
 use Rattle.dia_breaking_avps.specs.Sent.{group_of}
 use Rattle.dia_breaking_shortest.specs.Floors.{AreFloors, shortest_head, total}
 use Rattle.dia_breaking_shortest.proofs.BytesOfAvps.{data_bytes}
-use Rattle.dia_breaking_ways.specs.Walks.{Graph, IsWalk, IsReached, IsNoLater, Leads, PlainExits, PlainLevel, PlainNode, Stage, level_of, stage_at, stage_of, step_to}
+use Rattle.dia_breaking_ways.specs.Walks.{Graph, IsWalk, IsReached, IsNoLater, Leads, PlainExits, PlainLevel, PlainNode, Stage, is_by_wildcard, level_of, stage_at, stage_by, stage_of, step_to}
 use Rattle.dia_breaking_ways.specs.declared.graph.Step.{Step}
 use Rattle.dia_breaking_ways.specs.declared.graph.Reach.{Reach}
 use Rattle.dia_breaking.specs.declared.exits.Exits.{Exits}
@@ -164,13 +164,17 @@ module _ (da db : Dictionary) (who : Sends) (u : Unknown) (lengths : List ℕ) (
         way_by : (q : Key) (p : KeptAt q) → LedTo p.place → Reaches x y avps l p.place
         way_by q p leads = by there.0 there.1
           where
-            is : IsReached graph steps p.place l.number (l.stage.way + leads.0)
+            own : Leads (map node_in outlooks) l.stage.exits p.place leads.0
+            own = subst (λ (e : PlainExits). Leads (map node_in outlooks) e p.place leads.0) (sym l.stage_exits) leads.1
+
+            is : IsReached graph steps p.place l.number (l.stage.way + leads.0) (is_by_wildcard own || l.stage.wild)
             is = record {
               stage = l.stage;
               inner = leads.0;
               is_stage = l.is_stage;
-              leads = subst (λ (e : PlainExits). Leads (map node_in outlooks) e p.place leads.0) (sym l.stage_exits) leads.1;
+              leads = own;
               is_total = refl;
+              is_wild = refl;
               has_room = let le = leads.2 in let room = sent_here.1 in let fits = l.within in omega (arith, le, room, fits);
             }
 
@@ -180,13 +184,15 @@ module _ (da db : Dictionary) (who : Sends) (u : Unknown) (lengths : List ℕ) (
                 let size : length reached ≡ length (map node_in outlooks) = walk.each in
                 there_is reached p.place (omega (arith, within, size))
 
-            no_later : (reach : Reach) → IsNoLater reach l.number (l.stage.way + leads.0) → reach.length ≤ l.stage.way + total floor keys
-            no_later reach (inl less) = let le = leads.2 in omega (arith, less, le)
-            no_later reach (inr (equal, later)) = let le = leads.2 in omega (arith, equal, le)
+            no_later : (reach : Reach) (wild : Bool) → IsNoLater reach l.number (l.stage.way + leads.0) wild → reach.length ≤ l.stage.way + total floor keys
+            no_later reach wild (inl less) = let le = leads.2 in omega (arith, less, le)
+            no_later reach wild (inr (equal, later)) = let le = leads.2 in omega (arith, equal, le)
 
             by : (o : Option Reach) → slice_get reached p.place ≡ Some o → Reaches x y avps l p.place
-            by None at = absurd (walk.shortest p.place None at l.number (l.stage.way + leads.0) is)
-            by (Some reach) at = (reach, at, no_later reach ((walk.shortest p.place (Some reach) at).1 l.number (l.stage.way + leads.0) is))
+            by None at = absurd (walk.shortest p.place None at l.number (l.stage.way + leads.0) (is_by_wildcard own || l.stage.wild) is)
+            by (Some reach) at =
+                let wild = is_by_wildcard own || l.stage.wild in
+                (reach, at, no_later reach wild ((walk.shortest p.place (Some reach) at).1 l.number (l.stage.way + leads.0) wild is))
 
         pub way_of : (v : PlainAvp) → Contains avps v → (p : KeptAt (key_of v)) → Reaches x y avps l p.place
         way_of v comes p =
@@ -247,10 +253,10 @@ module _ (da db : Dictionary) (who : Sends) (u : Unknown) (lengths : List ℕ) (
             ap (λ (o : Option PlainNode). option_and_then (λ (n : PlainNode). n.level) o) (into_map node_in outlooks p.place p.outlook p.is_outlook) ∙ ap (λ (o : Option Inner). option_map level_in o) is_inner in
             let step : Step = step_to p.place level reach in
             let j = at_Contains steps step (walk.to_all p.place level reach node way.1) in
-            let stage : Stage = record { way = step.way; exits = level.exits } in
+            let stage : Stage = stage_by step level in
             let staged : stage_at graph steps (suc j.place) ≡ Some stage =
-            ap (λ (o : Option Step). option_and_then (λ (s : Step). stage_of graph s.place s.way) o) j.at
-            ∙ ap (λ (o : Option PlainLevel). option_map (λ (n : PlainLevel). record { way = step.way; exits = n.exits }) o) node in
+            ap (λ (o : Option Step). option_and_then (stage_of graph) o) j.at
+            ∙ ap (λ (o : Option PlainLevel). option_map (stage_by step) o) node in
             let rules : group_rules da p.outlook.key ≡ g.rules =
             ap (λ (q : Key). group_rules da q) p.outlook_key ∙ ap (λ (o : Option PlainDefinition). option_map_or (λ (group : PlainDefinition). group.rules) o []) is_g in
             let least : inner.least ≡ floor key - shortest_head key = is.least ∙ ap (λ (q : Key). floor q - shortest_head q) p.outlook_key in

@@ -1,5 +1,5 @@
 -- The level of a command's message is the one at which its walk starts.
-use Rattle.std.proofs.Common.{◌≡◌, ℕ, List, [], Option, refl, ap, subst, arith}
+use Rattle.std.proofs.Common.{◌≡◌, ℕ, false, List, [], Option, refl, ap, subst, arith}
 use Rattle.std.specs.Option.{option_map_or}
 use Rattle.dia_book.specs.declared.DRule.{DRule}
 use Rattle.dia_book.specs.Dictionary.{Dictionary, PlainDefinition, IsDictionary}
@@ -30,7 +30,7 @@ module _ (da db : Dictionary) (who : Sends) (u : Unknown) (made : Facts) (start 
   top_level = record {
     number = 0;
     def = c;
-    stage = record { way = 0; exits = plain_exits start.exits };
+    stage = record { way = 0; wild = false; exits = plain_exits start.exits };
     exits = is_start.exits;
     is_stage = refl;
     stage_exits = is_start.exits_are;

@@ -33,11 +33,39 @@ fn has(found: Option<Walk>, steps: &[Step], reached: &[Option<Reach>]) -> bool {
 }
 
 fn step(place: usize, way: u64, outer: usize) -> Step {
-    Step { place, way, outer }
+    Step {
+        place,
+        way,
+        wild: false,
+        outer,
+    }
+}
+
+/// A step whose way goes through a wildcard.
+fn wild_step(place: usize, way: u64, outer: usize) -> Step {
+    Step {
+        place,
+        way,
+        wild: true,
+        outer,
+    }
 }
 
 fn reach(level: usize, length: u64) -> Option<Reach> {
-    Some(Reach { level, length })
+    Some(Reach {
+        level,
+        length,
+        wild: false,
+    })
+}
+
+/// A way through a wildcard.
+fn wild_reach(level: usize, length: u64) -> Option<Reach> {
+    Some(Reach {
+        level,
+        length,
+        wild: true,
+    })
 }
 
 /// A group in a group: each way is longer by what the outer level takes.
@@ -77,7 +105,7 @@ fn wildcard(alloc: Global) -> Result<bool, AllocError> {
     let start = exits(alloc, &[(0, 200)], 40)?;
     let nodes = vec![in alloc; leaf(10), leaf(12), leaf(70)]?;
     let found = walk(alloc, &nodes, &start, 100)?;
-    Ok(has(found, &[], &[None, reach(0, 52), None]))
+    Ok(has(found, &[], &[None, wild_reach(0, 52), None]))
 }
 
 /// A group in itself has one step.
@@ -85,7 +113,56 @@ fn in_itself(alloc: Global) -> Result<bool, AllocError> {
     let start = exits(alloc, &[], 0)?;
     let nodes = vec![in alloc; group(alloc, &[(0, 16)])?]?;
     let found = walk(alloc, &nodes, &start, 100)?;
-    Ok(has(found, &[step(0, 8, 0)], &[reach(0, 16)]))
+    Ok(has(found, &[wild_step(0, 8, 0)], &[wild_reach(0, 16)]))
+}
+
+/// Two groups hold one AVP, and messages with it are equally long: the group whose rule lists it comes before the one whose
+/// wildcard lets it in, which is the first level.
+fn rule_or_wildcard(alloc: Global) -> Result<bool, AllocError> {
+    let start = exits(alloc, &[(0, 20), (1, 20)], CLOSED)?;
+    let open = Node {
+        other: 16,
+        level: Some(Level {
+            least: 8,
+            exits: exits(alloc, &[], 18)?,
+        }),
+    };
+    let nodes = vec![in alloc; open, group(alloc, &[(2, 30)])?, leaf(12)]?;
+    let found = walk(alloc, &nodes, &start, 100)?;
+    Ok(has(
+        found,
+        &[step(0, 12, 0), step(1, 12, 0)],
+        &[reach(0, 20), reach(0, 20), reach(2, 42)],
+    ))
+}
+
+/// The rules of two groups list one AVP, and messages with it are equally long: the group that a rule lists comes before the one
+/// that comes through a wildcard, and whose level is the first.
+fn group_by_wildcard(alloc: Global) -> Result<bool, AllocError> {
+    let start = exits(alloc, &[(1, 20)], 4)?;
+    let nodes = vec![in alloc;
+        group(alloc, &[(2, 30)])?,
+        group(alloc, &[(2, 30)])?,
+        leaf(97),
+    ]?;
+    let found = walk(alloc, &nodes, &start, 100)?;
+    Ok(has(
+        found,
+        &[wild_step(0, 12, 0), step(1, 12, 0)],
+        &[wild_reach(0, 20), reach(0, 20), reach(2, 42)],
+    ))
+}
+
+/// A shorter way through a wildcard comes before a longer one by rules.
+fn shorter_by_wildcard(alloc: Global) -> Result<bool, AllocError> {
+    let start = exits(alloc, &[(0, 20)], 29)?;
+    let nodes = vec![in alloc; group(alloc, &[(1, 30)])?, leaf(12)]?;
+    let found = walk(alloc, &nodes, &start, 100)?;
+    Ok(has(
+        found,
+        &[step(0, 12, 0)],
+        &[reach(0, 20), wild_reach(0, 41)],
+    ))
 }
 
 #[test]
@@ -98,4 +175,11 @@ fn finds_shortest_ways(rt: HostRuntime) {
 fn lets_in_what_is_not_listed(rt: HostRuntime) {
     assert!(rt; matches!(wildcard(rt.alloc()), Ok(true)));
     assert!(rt; matches!(in_itself(rt.alloc()), Ok(true)));
+}
+
+#[test]
+fn of_one_length_prefers_rules(rt: HostRuntime) {
+    assert!(rt; matches!(rule_or_wildcard(rt.alloc()), Ok(true)));
+    assert!(rt; matches!(group_by_wildcard(rt.alloc()), Ok(true)));
+    assert!(rt; matches!(shorter_by_wildcard(rt.alloc()), Ok(true)));
 }

@@ -1,12 +1,12 @@
 -- The shortest ways that are known so far.
-use Rattle.std.proofs.Common.{◌≡◌, ◌≢◌, ℕ, zero, suc, ◌+◌, ◌<◌, ◌≤◌, List, [], ◌∷◌, ◌++◌, length, Option, Some, None, refl, sym, ap, subst, ◌∙◌, arith, inl, inr}
+use Rattle.std.proofs.Common.{◌≡◌, ◌≢◌, ℕ, zero, suc, ◌+◌, ◌<◌, ◌≤◌, Bool, true, false, List, [], ◌∷◌, ◌++◌, length, Option, Some, None, refl, sym, ap, subst, ◌∙◌, arith, inl, inr}
 use Rattle.std.specs.Prelude.{◌⊎◌, slice_get, SomeIff}
 use Rattle.std.proofs.Math.ListN.{set}
 use Rattle.std.proofs.Common.{length-set}
 use Rattle.std.proofs.lemmas.Bool.{cases_lt, cases_eq}
 use Rattle.std.proofs.lemmas.Option.{none-some, same_Some, slice_get_within}
 use Rattle.dia_breaking_ways.specs.declared.graph.Reach.{Reach}
-use Rattle.dia_breaking_ways.specs.Walks.{IsNoLater}
+use Rattle.dia_breaking_ways.specs.Walks.{IsNoLater, IsPlainer}
 use Rattle.dia_breaking_ways.specs.Offers.{IsSooner, IsEarlier, HasOne, IsOffered, IsByRule, AreOffered}
 use Rattle.dia_breaking_ways.specs.Reached.{AreNone}
 use Rattle.dia_breaking_ways.proofs.ListedPlaces.{get_push_cases, length_push}
@@ -27,30 +27,50 @@ get_set_other (y ∷ ys) (suc i) (suc j) x other = get_set_other ys i j x (λ e.
 
 -- ---- ways in order
 
-pub no_later-refl : (x : Reach) → IsNoLater x x.level x.length
-no_later-refl x = inr (refl, omega arith)
+plainer_cases : (a b : Bool) → IsPlainer a b ⊎ (IsPlainer b a ⊎ (a ≡ b))
+plainer_cases true true = inr (inr refl)
+plainer_cases true false = inr (inl (refl, refl))
+plainer_cases false true = inl (refl, refl)
+plainer_cases false false = inr (inr refl)
 
-pub no_later-trans : (x y : Reach) (level total : ℕ) → IsNoLater x y.level y.length → IsNoLater y level total → IsNoLater x level total
-no_later-trans x y level total (inl h) (inl k) = inl (omega arith)
-no_later-trans x y level total (inl h) (inr k) = inl (omega arith)
-no_later-trans x y level total (inr h) (inl k) = inl (omega arith)
-no_later-trans x y level total (inr h) (inr k) = inr (omega arith, omega arith)
+plainer-trans : (a b c : Bool) (k m n : ℕ) → IsPlainer a b ⊎ ((a ≡ b) × (k ≤ m)) → IsPlainer b c ⊎ ((b ≡ c) × (m ≤ n)) → IsPlainer a c ⊎ ((a ≡ c) × (k ≤ n))
+plainer-trans a b c k m n (inl p) (inl q) = inl (p.0, q.1)
+plainer-trans a b c k m n (inl p) (inr q) = inl (p.0, sym q.0 ∙ p.1)
+plainer-trans a b c k m n (inr p) (inl q) = inl (p.0 ∙ q.0, q.1)
+plainer-trans a b c k m n (inr p) (inr q) = inr (p.0 ∙ q.0, omega (arith, p.1, q.1))
 
-no_later-sooner : (x y : Reach) → IsSooner x y → IsNoLater x y.level y.length
+pub no_later-refl : (x : Reach) → IsNoLater x x.level x.length x.wild
+no_later-refl x = inr (refl, inr (refl, omega arith))
+
+pub no_later-trans : (x y : Reach) (level total : ℕ) (wild : Bool) → IsNoLater x y.level y.length y.wild → IsNoLater y level total wild → IsNoLater x level total wild
+no_later-trans x y level total wild (inl h) (inl k) = inl (omega (arith, h, k))
+no_later-trans x y level total wild (inl h) (inr k) = inl (omega (arith, h, k.0))
+no_later-trans x y level total wild (inr h) (inl k) = inl (omega (arith, h.0, k))
+no_later-trans x y level total wild (inr h) (inr k) = inr (h.0 ∙ k.0, plainer-trans x.wild y.wild wild x.level y.level level h.1 k.1)
+
+no_later-sooner : (x y : Reach) → IsSooner x y → IsNoLater x y.level y.length y.wild
 no_later-sooner x y (inl h) = inl h
-no_later-sooner x y (inr h) = inr (h.0, omega arith)
+no_later-sooner x y (inr h) = inr (h.0, elim h.1 [ inl p ↦ inl p | inr q ↦ inr (q.0, omega (arith, q.1)) ])
 
-no_later-kept : (x y : Reach) → ¬ IsSooner x y → IsNoLater y x.level x.length
+no_later-kept : (x y : Reach) → ¬ IsSooner x y → IsNoLater y x.level x.length x.wild
 no_later-kept x y other = elim (cases_lt x.length y.length) [
   | inl h ↦ absurd (other (inl h))
   | inr h ↦ elim (cases_lt y.length x.length) [
     | inl k ↦ inl k
-    | inr k ↦ elim (cases_lt x.level y.level) [
-      | inl m ↦ absurd (other (inr (omega arith, m)))
-      | inr m ↦ inr (omega arith, m)
-    ]
+    | inr k ↦
+        let same : x.length ≡ y.length = omega (arith, h, k) in
+        inr (sym same, plainer_kept x.wild y.wild x.level y.level (λ p. other (inr (same, p))))
   ]
 ]
+  where
+    plainer_kept : (a b : Bool) (m n : ℕ) → ¬ (IsPlainer a b ⊎ ((a ≡ b) × (m < n))) → IsPlainer b a ⊎ ((b ≡ a) × (n ≤ m))
+    plainer_kept a b m n not = elim (plainer_cases a b) [
+      | inl p ↦ absurd (not (inl p))
+      | inr rest ↦ elim rest [
+        | inl p ↦ inl p
+        | inr e ↦ elim (cases_lt m n) [ inl less ↦ absurd (not (inr (e, less))) | inr le ↦ inr (sym e, le) ]
+      ]
+    ]
 
 -- ---- one way more
 
@@ -58,7 +78,7 @@ pub offered_not : (best : List (Option Reach)) (place : ℕ) (reach : Reach) →
 offered_not best place reach past = record {
   each = refl;
   from = λ p r e. inl e;
-  keeps = λ p level total h. h;
+  keeps = λ p level total wild h. h;
   takes = λ below. absurd (omega arith);
 }
 
@@ -67,27 +87,27 @@ offered_kept best place reach None e other = absurd (other tt)
 offered_kept best place reach (Some x) e other = record {
   each = refl;
   from = λ p r f. inl f;
-  keeps = λ p level total h. h;
+  keeps = λ p level total wild h. h;
   takes = λ below. record { reach = x; known = e; no_later = no_later-kept reach x other };
 }
 
 has_more : (best : List (Option Reach)) (place : ℕ) (reach : Reach) (known : Option Reach) → place < length best → slice_get best place ≡ Some known → IsEarlier known reach
-    → (p level total : ℕ) → HasOne best p level total → HasOne (set best place (Some reach)) p level total
-has_more best place reach known below e sooner p level total h = elim (cases_eq p place) [
-  | inl same ↦ has_here best place reach known below sooner p level total h same (same_Some known (Some h.reach) (sym e ∙ (ap (λ (k : ℕ). slice_get best k) (sym same) ∙ h.known)))
+    → (p level total : ℕ) (wild : Bool) → HasOne best p level total wild → HasOne (set best place (Some reach)) p level total wild
+has_more best place reach known below e sooner p level total wild h = elim (cases_eq p place) [
+  | inl same ↦ has_here best place reach known below sooner p level total wild h same (same_Some known (Some h.reach) (sym e ∙ (ap (λ (k : ℕ). slice_get best k) (sym same) ∙ h.known)))
   | inr other ↦ record { reach = h.reach; known = get_set_other best place p (Some reach) other ∙ h.known; no_later = h.no_later }
 ]
   where
     has_here : (best : List (Option Reach)) (place : ℕ) (reach : Reach) (known : Option Reach) → place < length best → IsEarlier known reach
-        → (p level total : ℕ) (h : HasOne best p level total) → p ≡ place → known ≡ Some h.reach → HasOne (set best place (Some reach)) p level total
-    has_here best place reach None below sooner p level total h same is = absurd (none-some h.reach is)
-    has_here best place reach (Some x) below sooner p level total h same is =
+        → (p level total : ℕ) (wild : Bool) (h : HasOne best p level total wild) → p ≡ place → known ≡ Some h.reach → HasOne (set best place (Some reach)) p level total wild
+    has_here best place reach None below sooner p level total wild h same is = absurd (none-some h.reach is)
+    has_here best place reach (Some x) below sooner p level total wild h same is =
         let own : x ≡ h.reach = same_Some x h.reach is in
-        let nearer : IsNoLater reach h.reach.level h.reach.length = subst (λ (y : Reach). IsNoLater reach y.level y.length) own (no_later-sooner reach x sooner) in
+        let nearer : IsNoLater reach h.reach.level h.reach.length h.reach.wild = subst (λ (y : Reach). IsNoLater reach y.level y.length y.wild) own (no_later-sooner reach x sooner) in
         record {
           reach = reach;
           known = ap (λ (k : ℕ). slice_get (set best place (Some reach)) k) same ∙ get_set_same best place (Some reach) below;
-          no_later = no_later-trans reach h.reach level total nearer h.no_later;
+          no_later = no_later-trans reach h.reach level total wild nearer h.no_later;
         }
 
 pub offered_set : (best : List (Option Reach)) (place : ℕ) (reach : Reach) (known : Option Reach) → slice_get best place ≡ Some known → IsEarlier known reach
@@ -97,7 +117,7 @@ offered_set best place reach known e sooner =
     record {
       each = length-set best place (Some reach);
       from = λ p r f. from_set best place reach below p r f (cases_eq p place);
-      keeps = λ p level total h. has_more best place reach known below e sooner p level total h;
+      keeps = λ p level total wild h. has_more best place reach known below e sooner p level total wild h;
       takes = λ b. record { reach = reach; known = get_set_same best place (Some reach) below; no_later = no_later-refl reach };
     }
   where
@@ -111,54 +131,57 @@ offered_set best place reach known e sooner =
 
 -- ---- the ways by a list
 
-pub are_offered_none : (best : List (Option Reach)) (room level way : ℕ) (listed : List (ℕ × ℕ)) → AreOffered best best room level way listed 0
-are_offered_none best room level way listed = record {
+pub are_offered_none : (best : List (Option Reach)) (room level way : ℕ) (wild : Bool) (listed : List (ℕ × ℕ)) → AreOffered best best room level way wild listed 0
+are_offered_none best room level way wild listed = record {
   each = refl;
   from = λ p r e. inl e;
-  keeps = λ p l total h. h;
+  keeps = λ p l total w h. h;
   takes = λ k p inner below. absurd (omega arith);
 }
 
-wider : (room level way : ℕ) (listed : List (ℕ × ℕ)) (n p : ℕ) (r : Reach) → IsByRule room level way listed n p r → IsByRule room level way listed (n + 1) p r
-wider room level way listed n p r h = record {
+wider : (room level way : ℕ) (wild : Bool) (listed : List (ℕ × ℕ)) (n p : ℕ) (r : Reach) → IsByRule room level way wild listed n p r → IsByRule room level way wild listed (n + 1) p r
+wider room level way wild listed n p r h = record {
   at = h.at;
   inner = h.inner;
   below = let b = h.below in omega arith;
   lists = h.lists;
   is_level = h.is_level;
   is_length = h.is_length;
+  is_wild = h.is_wild;
   has_room = h.has_room;
 }
 
 -- the next place of the list has room
-pub are_offered_more : (first best after : List (Option Reach)) (room level way : ℕ) (listed : List (ℕ × ℕ)) (n place inner length : ℕ) → AreOffered first best room level way listed n
-    → slice_get listed n ≡ Some (place, inner) → way + inner ≤ room → way + inner ≡ length → IsOffered best after place (record { level = level; length = length })
-    → AreOffered first after room level way listed (n + 1)
-are_offered_more first best after room level way listed n place inner total h lists fits is o = record {
+pub are_offered_more : (first best after : List (Option Reach)) (room level way : ℕ) (wild : Bool) (listed : List (ℕ × ℕ)) (n place inner length : ℕ)
+    → AreOffered first best room level way wild listed n
+    → slice_get listed n ≡ Some (place, inner) → way + inner ≤ room → way + inner ≡ length → IsOffered best after place (record { level = level; length = length; wild = wild })
+    → AreOffered first after room level way wild listed (n + 1)
+are_offered_more first best after room level way wild listed n place inner total h lists fits is o = record {
   each = o.each ∙ h.each;
-  from = λ p r e. from_more first best room level way listed n place inner total h lists fits is p r (o.from p r e);
-  keeps = λ p l t x. o.keeps p l t (h.keeps p l t x);
+  from = λ p r e. from_more first best room level way wild listed n place inner total h lists fits is p r (o.from p r e);
+  keeps = λ p l t w x. o.keeps p l t w (h.keeps p l t w x);
   takes = λ k p i below at within room_for. elim (cases_lt k n) [
-    | inl less ↦ o.keeps p level (way + i) (h.takes k p i less at within room_for)
+    | inl less ↦ o.keeps p level (way + i) wild (h.takes k p i less at within room_for)
     | inr more ↦
         let same : n ≡ k = omega arith in
         let pair : ◌≡◌ {A = ℕ × ℕ} (place, inner) (p, i) = same_Some (place, inner) (p, i) (sym lists ∙ (ap (λ (m : ℕ). slice_get listed m) same ∙ at)) in
         let same_place : place ≡ p = ap (λ (x : ℕ × ℕ). x.0) pair in
         let same_inner : inner ≡ i = ap (λ (x : ℕ × ℕ). x.1) pair in
-        let has : HasOne after place level total = o.takes (let e = h.each in omega arith) in
-        let here : HasOne after p level total = subst (λ (m : ℕ). HasOne after m level total) same_place has in
-        subst (λ (m : ℕ). HasOne after p level m) (sym is ∙ ap (λ (m : ℕ). way + m) same_inner) here
+        let has : HasOne after place level total wild = o.takes (let e = h.each in omega arith) in
+        let here : HasOne after p level total wild = subst (λ (m : ℕ). HasOne after m level total wild) same_place has in
+        subst (λ (m : ℕ). HasOne after p level m wild) (sym is ∙ ap (λ (m : ℕ). way + m) same_inner) here
   ];
 }
   where
-    from_more : (first best : List (Option Reach)) (room level way : ℕ) (listed : List (ℕ × ℕ)) (n place inner total : ℕ) → AreOffered first best room level way listed n
+    from_more : (first best : List (Option Reach)) (room level way : ℕ) (wild : Bool) (listed : List (ℕ × ℕ)) (n place inner total : ℕ) → AreOffered first best room level way wild listed n
         → slice_get listed n ≡ Some (place, inner) → way + inner ≤ room → way + inner ≡ total → (p : ℕ) (r : Reach)
-        → (slice_get best p ≡ Some (Some r)) ⊎ ((p ≡ place) × (r ≡ record { level = level; length = total }))
-        → (slice_get first p ≡ Some (Some r)) ⊎ IsByRule room level way listed (n + 1) p r
-    from_more first best room level way listed n place inner total h lists fits is p r (inl e) = elim (h.from p r e) [ inl f ↦ inl f | inr f ↦ inr (wider room level way listed n p r f) ]
-    from_more first best room level way listed n place inner total h lists fits is p r (inr e) =
+        → (slice_get best p ≡ Some (Some r)) ⊎ ((p ≡ place) × (r ≡ record { level = level; length = total; wild = wild }))
+        → (slice_get first p ≡ Some (Some r)) ⊎ IsByRule room level way wild listed (n + 1) p r
+    from_more first best room level way wild listed n place inner total h lists fits is p r (inl e) = elim (h.from p r e) [ inl f ↦ inl f | inr f ↦ inr (wider room level way wild listed n p r f) ]
+    from_more first best room level way wild listed n place inner total h lists fits is p r (inr e) =
         let l : r.level ≡ level = ap (λ (x : Reach). x.level) e.1 in
         let t : r.length ≡ total = ap (λ (x : Reach). x.length) e.1 in
+        let w : r.wild ≡ wild = ap (λ (x : Reach). x.wild) e.1 in
         inr (record {
           at = n;
           inner = inner;
@@ -167,15 +190,16 @@ are_offered_more first best after room level way listed n place inner total h li
               ∙ ap (λ (m : ℕ). let x : ℕ × ℕ = (m, inner) in Some x) (sym e.0);
           is_level = l;
           is_length = omega arith;
+          is_wild = w;
           has_room = omega arith;
         })
 
 -- it has none
-pub are_offered_past : (first best : List (Option Reach)) (room level way : ℕ) (listed : List (ℕ × ℕ)) (n place inner : ℕ) → AreOffered first best room level way listed n
-    → slice_get listed n ≡ Some (place, inner) → ¬ (way + inner ≤ room) → AreOffered first best room level way listed (n + 1)
-are_offered_past first best room level way listed n place inner h lists none = record {
+pub are_offered_past : (first best : List (Option Reach)) (room level way : ℕ) (wild : Bool) (listed : List (ℕ × ℕ)) (n place inner : ℕ) → AreOffered first best room level way wild listed n
+    → slice_get listed n ≡ Some (place, inner) → ¬ (way + inner ≤ room) → AreOffered first best room level way wild listed (n + 1)
+are_offered_past first best room level way wild listed n place inner h lists none = record {
   each = h.each;
-  from = λ p r e. elim (h.from p r e) [ inl f ↦ inl f | inr f ↦ inr (wider room level way listed n p r f) ];
+  from = λ p r e. elim (h.from p r e) [ inl f ↦ inl f | inr f ↦ inr (wider room level way wild listed n p r f) ];
   keeps = h.keeps;
   takes = λ k p i below at within fits. elim (cases_lt k n) [
     | inl less ↦ h.takes k p i less at within fits

@@ -1,5 +1,5 @@
 -- The places that rules list, and levels by their numbers.
-use Rattle.std.proofs.Common.{◌≡◌, ℕ, zero, suc, ◌+◌, ◌<◌, Bool, List, [], ◌∷◌, ◌++◌, length, map, Option, Some, None, Result, Ok, Err, refl, sym, ap, subst, ◌∙◌, get_or, arith, inl, inr}
+use Rattle.std.proofs.Common.{◌≡◌, ℕ, zero, suc, ◌+◌, ◌<◌, Bool, false, List, [], ◌∷◌, ◌++◌, length, map, Option, Some, None, Result, Ok, Err, refl, sym, ap, subst, ◌∙◌, get_or, arith, inl, inr}
 use Rattle.std.specs.Prelude.{◌⊎◌, slice_get, Contains, MatchBool, option_map, option_and_then}
 use Rattle.std.specs.Result.{is_ok}
 use Rattle.std.specs.Ordering.{nat_cmp}
@@ -77,23 +77,23 @@ has_places listed xs ys is moved rising = record {
 
 -- ---- levels by their numbers
 
-pub stages_none : (g : Graph) (steps : List Step) (x : OwnStage) → IsStage (Some (record { way = 0; exits = g.start })) x → AreStages g steps 0 (x ∷ [])
+pub stages_none : (g : Graph) (steps : List Step) (x : OwnStage) → IsStage (Some (record { way = 0; wild = false; exits = g.start })) x → AreStages g steps 0 (x ∷ [])
 stages_none g steps x h = record { all = refl; each = λ number own e. first g steps x h number own e }
   where
-    first : (g : Graph) (steps : List Step) (x : OwnStage) → IsStage (Some (record { way = 0; exits = g.start })) x → (number : ℕ) (own : OwnStage) → slice_get (x ∷ []) number ≡ Some own
+    first : (g : Graph) (steps : List Step) (x : OwnStage) → IsStage (Some (record { way = 0; wild = false; exits = g.start })) x → (number : ℕ) (own : OwnStage) → slice_get (x ∷ []) number ≡ Some own
         → IsStage (stage_at g steps number) own
-    first g steps x h zero own e = subst (λ (y : OwnStage). IsStage (Some (record { way = 0; exits = g.start })) y) (same_Some x own e) h
+    first g steps x h zero own e = subst (λ (y : OwnStage). IsStage (Some (record { way = 0; wild = false; exits = g.start })) y) (same_Some x own e) h
     first g steps x h (suc number) own e = absurd (none-some own e)
 
 pub stages_more : (g : Graph) (steps : List Step) (n : ℕ) (stages : List OwnStage) (s : Step) (x : OwnStage) → AreStages g steps n stages → slice_get steps n ≡ Some s
-    → IsStage (stage_of g s.place s.way) x
+    → IsStage (stage_of g s) x
     → AreStages g steps (n + 1) (stages ++ x ∷ [])
 stages_more g steps n stages s x h at is = record {
   all = let a = h.all in let l = length_push stages x in omega arith;
   each = λ number own e. elim (get_push_cases stages x number own e) [
     | inl f ↦ h.each number own f
     | inr f ↦
-        let here : IsStage (stage_at g steps (suc n)) x = subst (λ (o : Option Step). IsStage (option_and_then (λ (t : Step). stage_of g t.place t.way) o) x) (sym at) is in
+        let here : IsStage (stage_at g steps (suc n)) x = subst (λ (o : Option Step). IsStage (option_and_then (stage_of g) o) x) (sym at) is in
         let same : suc n ≡ number = sym (f.0 ∙ h.all) in
         subst (λ (y : OwnStage). IsStage (stage_at g steps number) y) f.1 (subst (λ (k : ℕ). IsStage (stage_at g steps k) x) same here)
   ];

@@ -1,11 +1,11 @@
 -- A graph has one walk.
-use Rattle.std.proofs.Common.{◌≡◌, ℕ, zero, suc, ◌-◌, ◌<◌, ◌≤◌, List, [], ◌∷◌, length, Option, Some, None, refl, sym, ap, subst, ◌∙◌, get_or, arith, inl, inr}
+use Rattle.std.proofs.Common.{◌≡◌, ℕ, zero, suc, ◌-◌, ◌<◌, ◌≤◌, Bool, true, false, List, [], ◌∷◌, length, Option, Some, None, refl, sym, ap, subst, ◌∙◌, get_or, arith, inl, inr}
 use Rattle.std.specs.Prelude.{◌⊎◌, slice_get, Contains, option_and_then}
 use Rattle.std.proofs.lemmas.Option.{none-some, same_Some, slice_get_within, slice_get-get_or, slice_get_past}
 use Rattle.std.proofs.lemmas.Bool.{cases_lt}
 use Rattle.dia_breaking_ways.specs.declared.graph.Step.{Step}
 use Rattle.dia_breaking_ways.specs.declared.graph.Reach.{Reach}
-use Rattle.dia_breaking_ways.specs.Walks.{Graph, PlainLevel, IsReached, IsNoLater, IsShortest, IsStep, IsBefore, IsWalk, step_to, stage_at, stage_of, level_of}
+use Rattle.dia_breaking_ways.specs.Walks.{Graph, PlainLevel, IsReached, IsNoLater, IsPlainer, IsShortest, IsStep, IsBefore, IsWalk, step_to, stage_at, stage_of, level_of}
 
 -- ---- lists
 
@@ -29,16 +29,17 @@ agree_back n S T h = λ j below. sym (h j below)
 
 stages_agree : (g : Graph) (S T : List Step) (n : ℕ) → Agree n S T → (number : ℕ) → number ≤ n → stage_at g S number ≡ stage_at g T number
 stages_agree g S T n h zero le = refl
-stages_agree g S T n h (suc i) le = ap (λ (o : Option Step). option_and_then (λ (step : Step). stage_of g step.place step.way) o) (h i (omega arith))
+stages_agree g S T n h (suc i) le = ap (λ (o : Option Step). option_and_then (stage_of g) o) (h i (omega arith))
 
-reached_too : (g : Graph) (S T : List Step) (n : ℕ) → Agree n S T → (place number total : ℕ) → number ≤ n → IsReached g S place number total → IsReached g T place number total
-reached_too g S T n h place number total le r = record {
+reached_too : (g : Graph) (S T : List Step) (n : ℕ) → Agree n S T → (place number total : ℕ) (wild : Bool) → number ≤ n → IsReached g S place number total wild → IsReached g T place number total wild
+reached_too g S T n h place number total wild le r = record {
   stage = r.stage;
   inner = r.inner;
   is_stage = sym (stages_agree g S T n h number le)
       ∙ r.is_stage;
   leads = r.leads;
   is_total = r.is_total;
+  is_wild = r.is_wild;
   has_room = r.has_room;
 }
 
@@ -68,22 +69,22 @@ record Later (g : Graph) (R W : List (Option Reach)) (s : Step) : Type 0 where
   own : IsStep g R s
   other : Reach
   is_other : slice_get W s.place ≡ Some (Some other)
-  nearer : IsNoLater other own.reach.level own.reach.length
+  nearer : IsNoLater other own.reach.level own.reach.length own.reach.wild
 
 way_or_none : (W : List (Option Reach)) (p : ℕ) → p < length W → (o : Option Reach) × (slice_get W p ≡ Some o)
 way_or_none W p below = (get_or W p None, slice_get-get_or W p None below)
 
-later_by : (g : Graph) (T : List Step) (R W : List (Option Reach)) (s : Step) (own : IsStep g R s) → IsReached g T s.place own.reach.level own.reach.length
+later_by : (g : Graph) (T : List Step) (R W : List (Option Reach)) (s : Step) (own : IsStep g R s) → IsReached g T s.place own.reach.level own.reach.length own.reach.wild
     → (o : Option Reach) → slice_get W s.place ≡ Some o → IsShortest g T s.place o → Later g R W s
-later_by g T R W s own r None e short = absurd (short own.reach.level own.reach.length r)
-later_by g T R W s own r (Some x) e short = record { own = own; other = x; is_other = e; nearer = short.1 own.reach.level own.reach.length r }
+later_by g T R W s own r None e short = absurd (short own.reach.level own.reach.length own.reach.wild r)
+later_by g T R W s own r (Some x) e short = record { own = own; other = x; is_other = e; nearer = short.1 own.reach.level own.reach.length own.reach.wild r }
 
 later : (g : Graph) (S T : List Step) (R W : List (Option Reach)) → IsWalk g S R → IsWalk g T W → (i : ℕ) → Agree i S T → (s : Step) → slice_get S i ≡ Some s → Later g R W s
 later g S T R W w v i h s e =
     let own : IsStep g R s = w.to_reached i s e in
     let out : own.reach.level ≤ i = subst (λ (x : Step). x.outer ≤ i) own.is_step (w.outer_first i s e) in
     let here : IsShortest g S s.place (Some own.reach) = w.shortest s.place (Some own.reach) own.is_reach in
-    let there : IsReached g T s.place own.reach.level own.reach.length = reached_too g S T i h s.place own.reach.level own.reach.length out here.0 in
+    let there : IsReached g T s.place own.reach.level own.reach.length own.reach.wild = reached_too g S T i h s.place own.reach.level own.reach.length own.reach.wild out here.0 in
     let inside : s.place < length R = slice_get_within R s.place (Some own.reach) own.is_reach in
     let within : s.place < length W = let a = w.each in let b = v.each in omega arith in
     let o = way_or_none W s.place within in
@@ -98,9 +99,9 @@ record Occurs (T : List Step) (i : ℕ) (s : Step) : Type 0 where
   same_place : step.place ≡ s.place
   no_longer : step.way ≤ s.way
 
-shorter : (least : ℕ) (x y : Reach) → IsNoLater x y.level y.length → x.length - least ≤ y.length - least
-shorter least x y (inl h) = omega arith
-shorter least x y (inr h) = omega arith
+shorter : (least : ℕ) (x y : Reach) → IsNoLater x y.level y.length y.wild → x.length - least ≤ y.length - least
+shorter least x y (inl h) = omega (arith, h)
+shorter least x y (inr h) = omega (arith, h.0)
 
 -- a step's place comes no earlier
 after_by : (g : Graph) (S : List Step) (R : List (Option Reach)) → IsWalk g S R → (i : ℕ) (s : Step) → slice_get S i ≡ Some s → (t : Step) (j : ℕ) → t.place ≡ s.place
@@ -160,20 +161,28 @@ not_after_both s t (inl h) (inr k) = omega arith
 not_after_both s t (inr h) (inl k) = omega arith
 not_after_both s t (inr h) (inr k) = omega arith
 
-pub same_reach : (x y : Reach) → IsNoLater x y.level y.length → IsNoLater y x.level x.length → x ≡ y
-same_reach x y (inl h) (inl k) = absurd (omega arith)
-same_reach x y (inl h) (inr k) = absurd (omega arith)
-same_reach x y (inr h) (inl k) = absurd (omega arith)
-same_reach x y (inr h) (inr k) = let a : x.level ≡ y.level = omega arith in let b : x.length ≡ y.length = h.0 in
-    ap (λ (n : ℕ). let r : Reach = record { level = n; length = x.length } in r) a ∙ ap (λ (n : ℕ). let r : Reach = record { level = y.level; length = n } in r) b
+same_wild : (a b : Bool) (m n : ℕ) → IsPlainer a b ⊎ ((a ≡ b) × (m ≤ n)) → IsPlainer b a ⊎ ((b ≡ a) × (n ≤ m)) → (a ≡ b) × (m ≡ n)
+same_wild a b m n (inl p) (inl q) = absurd (let bad : false ≡ true = sym p.0 ∙ q.1 in cc)
+same_wild a b m n (inl p) (inr q) = absurd (let bad : false ≡ true = sym p.0 ∙ (sym q.0 ∙ p.1) in cc)
+same_wild a b m n (inr p) (inl q) = absurd (let bad : false ≡ true = sym q.0 ∙ (sym p.0 ∙ q.1) in cc)
+same_wild a b m n (inr p) (inr q) = (p.0, omega (arith, p.1, q.1))
+
+pub same_reach : (x y : Reach) → IsNoLater x y.level y.length y.wild → IsNoLater y x.level x.length x.wild → x ≡ y
+same_reach x y (inl h) (inl k) = absurd (omega (arith, h, k))
+same_reach x y (inl h) (inr k) = absurd (omega (arith, h, k.0))
+same_reach x y (inr h) (inl k) = absurd (omega (arith, h.0, k))
+same_reach x y (inr h) (inr k) =
+    let same = same_wild x.wild y.wild x.level y.level h.1 k.1 in
+    let long : x.length ≡ y.length = h.0 in
+    λ i. record { level = same.1 i; length = long i; wild = same.0 i }
 
 -- by two ways to one place, each no later than the other, the steps are one
 same_step : (g : Graph) (R W : List (Option Reach)) (s t : Step) → s.place ≡ t.place → Later g R W s → Later g W R t → s ≡ t
 same_step g R W s t e l k =
     let p : l.other ≡ k.own.reach = same_way W s.place t.place l.other k.own.reach e l.is_other k.own.is_reach in
     let q : k.other ≡ l.own.reach = same_way R t.place s.place k.other l.own.reach (sym e) k.is_other l.own.is_reach in
-    let a : IsNoLater k.own.reach l.own.reach.level l.own.reach.length = subst (λ (x : Reach). IsNoLater x l.own.reach.level l.own.reach.length) p l.nearer in
-    let b : IsNoLater l.own.reach k.own.reach.level k.own.reach.length = subst (λ (x : Reach). IsNoLater x k.own.reach.level k.own.reach.length) q k.nearer in
+    let a : IsNoLater k.own.reach l.own.reach.level l.own.reach.length l.own.reach.wild = subst (λ (x : Reach). IsNoLater x l.own.reach.level l.own.reach.length l.own.reach.wild) p l.nearer in
+    let b : IsNoLater l.own.reach k.own.reach.level k.own.reach.length k.own.reach.wild = subst (λ (x : Reach). IsNoLater x k.own.reach.level k.own.reach.length k.own.reach.wild) q k.nearer in
     l.own.is_step ∙ (same_steps s.place t.place l.own.level k.own.level l.own.reach k.own.reach e (same_level g s.place t.place l.own.level k.own.level e l.own.is_level k.own.is_level)
     (same_reach l.own.reach k.own.reach b a) ∙ sym k.own.is_step)
 
@@ -216,9 +225,9 @@ one_list g S T R W w v = same_lists S T (λ i. all_agree g S T R W w v (suc i) i
 
 one_way : (g : Graph) (S : List Step) (p : ℕ) (x y : Option Reach) → IsShortest g S p x → IsShortest g S p y → x ≡ y
 one_way g S p None None a b = refl
-one_way g S p None (Some y) a b = absurd (a y.level y.length b.0)
-one_way g S p (Some x) None a b = absurd (b x.level x.length a.0)
-one_way g S p (Some x) (Some y) a b = ap (λ (r : Reach). Some r) (same_reach x y (a.1 y.level y.length b.0) (b.1 x.level x.length a.0))
+one_way g S p None (Some y) a b = absurd (a y.level y.length y.wild b.0)
+one_way g S p (Some x) None a b = absurd (b x.level x.length x.wild a.0)
+one_way g S p (Some x) (Some y) a b = ap (λ (r : Reach). Some r) (same_reach x y (a.1 y.level y.length y.wild b.0) (b.1 x.level x.length x.wild a.0))
 
 same_ways_at : (g : Graph) (S : List Step) (R W : List (Option Reach)) → IsWalk g S R → IsWalk g S W → (p : ℕ) → slice_get R p ≡ slice_get W p
 same_ways_at g S R W w v p = elim (cases_lt p (length R)) [

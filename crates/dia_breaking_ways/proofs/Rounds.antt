@@ -1,14 +1,16 @@
 -- Each round of a search gets more steps right, until they stay the same.
-use Rattle.std.proofs.Common.{◌≡◌, ◌≢◌, Bool, true, ℕ, zero, suc, ◌+◌, ◌-◌, ◌<◌, ◌≤◌, List, [], ◌∷◌, length, Option, Some, None, refl, sym, ap, subst, ◌∙◌, arith, inl, inr}
+use Rattle.std.proofs.Common.{◌≡◌, ◌≢◌, Bool, true, false, ℕ, zero, suc, ◌+◌, ◌-◌, ◌<◌, ◌≤◌, List, [], ◌∷◌, length, Option, Some, None, refl, sym, ap, subst, ◌∙◌, arith, inl, inr}
 use Rattle.std.specs.Prelude.{◌⊎◌, ◌&&◌, ◌==◌, slice_get, Contains, option_and_then, option_map, is_some}
 use Rattle.std.specs.Bool.{Decides}
+use Rattle.std.specs.Cmp.{booleans_Decides}
+use Rattle.std.proofs.Math.Bool.{beq}
 use Rattle.std.specs.Cmp.Lexicographic.{pointwise}
 use Rattle.std.proofs.lemmas.Bool.{and_from, and_parts, cases_eq, cases_lt, eq-eqb, eqb-true}
 use Rattle.std.proofs.lemmas.Slice.Eq.{slice_eq-Decides}
 use Rattle.std.proofs.lemmas.Option.{none-some, same_Some, slice_get_within}
 use Rattle.dia_breaking_ways.specs.declared.graph.Step.{Step}
 use Rattle.dia_breaking_ways.specs.declared.graph.Reach.{Reach}
-use Rattle.dia_breaking_ways.specs.Walks.{Graph, PlainLevel, Stage, AreLevelsShorter, HasExits, IsBefore, IsReached, IsNoLater, IsShortest, IsStep, stage_at, stage_of, level_of}
+use Rattle.dia_breaking_ways.specs.Walks.{Graph, PlainLevel, Stage, AreLevelsShorter, HasExits, IsBefore, IsReached, IsNoLater, IsShortest, IsStep, stage_at, stage_by, stage_of, level_of}
 use Rattle.dia_breaking_ways.specs.Reached.{AreShortest}
 use Rattle.dia_breaking_ways.specs.Rounds.{AreStepsBy, AreWithin, IsRound}
 use Rattle.dia_breaking_ways.specs.Stages.{HaveLevels}
@@ -19,17 +21,17 @@ use Rattle.dia_breaking_ways.proofs.AllReached.{get_some}
 -- ---- levels
 
 -- a level that there is, by its parts
-record IsStageOf (g : Graph) (place way : ℕ) (stage : Stage) : Type 0 where
+record IsStageOf (g : Graph) (step : Step) (stage : Stage) : Type 0 where
   level : PlainLevel
-  is_level : level_of g place ≡ Some level
-  is_way : stage.way ≡ way
+  is_level : level_of g step.place ≡ Some level
+  is_way : stage.way ≡ step.way
   is_exits : stage.exits ≡ level.exits
 
-stage_parts : (g : Graph) (place way : ℕ) (stage : Stage) (o : Option PlainLevel) → level_of g place ≡ o → stage_of g place way ≡ Some stage → IsStageOf g place way stage
-stage_parts g place way stage None none e = absurd (none-some stage (sym (ap (option_map (λ (level : PlainLevel). let s : Stage = record { way = way; exits = level.exits } in s)) none) ∙ e))
-stage_parts g place way stage (Some level) is e =
-    let made : Stage = record { way = way; exits = level.exits } in
-    let same : made ≡ stage = same_Some made stage (sym (ap (option_map (λ (level : PlainLevel). let s : Stage = record { way = way; exits = level.exits } in s)) is) ∙ e) in
+stage_parts : (g : Graph) (step : Step) (stage : Stage) (o : Option PlainLevel) → level_of g step.place ≡ o → stage_of g step ≡ Some stage → IsStageOf g step stage
+stage_parts g step stage None none e = absurd (none-some stage (sym (ap (option_map (stage_by step)) none) ∙ e))
+stage_parts g step stage (Some level) is e =
+    let made = stage_by step level in
+    let same : made ≡ stage = same_Some made stage (sym (ap (option_map (stage_by step)) is) ∙ e) in
     record {
       level = level;
       is_level = is;
@@ -41,9 +43,9 @@ stage_parts g place way stage (Some level) is e =
 record IsLevelOf (g : Graph) (steps : List Step) (i : ℕ) (stage : Stage) : Type 0 where
   step : Step
   is_at : slice_get steps i ≡ Some step
-  is_stage : stage_of g step.place step.way ≡ Some stage
+  is_stage : stage_of g step ≡ Some stage
 
-level_at : (g : Graph) (steps : List Step) (i : ℕ) (stage : Stage) (o : Option Step) → slice_get steps i ≡ o → option_and_then (λ (step : Step). stage_of g step.place step.way) o ≡ Some stage
+level_at : (g : Graph) (steps : List Step) (i : ℕ) (stage : Stage) (o : Option Step) → slice_get steps i ≡ o → option_and_then (stage_of g) o ≡ Some stage
     → IsLevelOf g steps i stage
 level_at g steps i stage None at e = absurd (none-some stage e)
 level_at g steps i stage (Some step) at e = record { step = step; is_at = at; is_stage = e }
@@ -52,15 +54,15 @@ level_of_number : (g : Graph) (steps : List Step) (i : ℕ) (stage : Stage) → 
 level_of_number g steps i stage e = level_at g steps i stage (slice_get steps i) refl e
 
 way_of_number : (g : Graph) (steps : List Step) (i : ℕ) (stage : Stage) (l : IsLevelOf g steps i stage) → stage.way ≡ l.step.way
-way_of_number g steps i stage l = (stage_parts g l.step.place l.step.way stage (level_of g l.step.place) refl l.is_stage).is_way
+way_of_number g steps i stage l = (stage_parts g l.step stage (level_of g l.step.place) refl l.is_stage).is_way
 
 exits_of : (g : Graph) (steps : List Step) (number : ℕ) (stage : Stage) → stage_at g steps number ≡ Some stage → HasExits g stage.exits
 exits_of g steps zero stage e =
-    let start : Stage = record { way = 0; exits = g.start } in
+    let start : Stage = record { way = 0; wild = false; exits = g.start } in
     inl (ap (λ (s : Stage). s.exits) (sym (same_Some start stage e)))
 exits_of g steps (suc i) stage e =
     let l = level_of_number g steps i stage e in
-    let p = stage_parts g l.step.place l.step.way stage (level_of g l.step.place) refl l.is_stage in
+    let p = stage_parts g l.step stage (level_of g l.step.place) refl l.is_stage in
     inr (l.step.place, p.level, p.is_level, p.is_exits)
 
 -- ---- steps that agree
@@ -79,23 +81,24 @@ module _ (g : Graph) (S T : List Step) (m : ℕ) where
       let l = level_of_number g S i stage e in
       let w = way_of_number g S i stage l in
       let there = (agree i l.step (omega (arith, w, below))).0 l.is_at in
-      ap (option_and_then (λ (step : Step). stage_of g step.place step.way)) there ∙ l.is_stage
+      ap (option_and_then (stage_of g)) there ∙ l.is_stage
 
 module _ (g : Graph) (shorter : AreLevelsShorter g) where
   -- what is around a level is longer than what is around the level that holds it
-  outer_less : (S : List Step) (p number total : ℕ) (level : PlainLevel) → level_of g p ≡ Some level → (r : IsReached g S p number total) → r.stage.way < total - level.least
-  outer_less S p number total level is r =
+  outer_less : (S : List Step) (p number total : ℕ) (wild : Bool) (level : PlainLevel) → level_of g p ≡ Some level → (r : IsReached g S p number total wild) → r.stage.way < total - level.least
+  outer_less S p number total wild level is r =
       let less = shorter r.stage.exits p r.inner level (exits_of g S number r.stage r.is_stage) r.leads is in
       omega (arith, less, r.is_total)
 
-  reached_same : (S T : List Step) (m p number total : ℕ) (level : PlainLevel) → Agree m S T → level_of g p ≡ Some level → total - level.least ≤ m → IsReached g S p number total
-      → IsReached g T p number total
-  reached_same S T m p number total level agree is short r = record {
+  reached_same : (S T : List Step) (m p number total : ℕ) (wild : Bool) (level : PlainLevel) → Agree m S T → level_of g p ≡ Some level → total - level.least ≤ m → IsReached g S p number total wild
+      → IsReached g T p number total wild
+  reached_same S T m p number total wild level agree is short r = record {
     stage = r.stage;
     inner = r.inner;
-    is_stage = stage_same g S T m agree number r.stage r.is_stage (let less = outer_less S p number total level is r in omega (arith, less, short));
+    is_stage = stage_same g S T m agree number r.stage r.is_stage (let less = outer_less S p number total wild level is r in omega (arith, less, short));
     leads = r.leads;
     is_total = r.is_total;
+    is_wild = r.is_wild;
     has_room = r.has_room;
   }
 
@@ -112,20 +115,20 @@ module _ (g : Graph) (shorter : AreLevelsShorter g) where
         there : (o : Option Reach) × (slice_get W p ≡ Some o)
         there = get_some W p (let inside = slice_get_within R p (Some x) at in omega (arith, inside, first.each, second.each))
 
-        reached : IsReached g T p x.level x.length
-        reached = reached_same S T m p x.level x.length level agree is short here.0
+        reached : IsReached g T p x.level x.length x.wild
+        reached = reached_same S T m p x.level x.length x.wild level agree is short here.0
 
-        no_longer : (y : Reach) → IsNoLater y x.level x.length → y.length ≤ x.length
+        no_longer : (y : Reach) → IsNoLater y x.level x.length x.wild → y.length ≤ x.length
         no_longer y (inl h) = omega (arith, h)
         no_longer y (inr h) = omega (arith, h.0)
 
         by : (o : Option Reach) → slice_get W p ≡ Some o → IsShortest g T p o → slice_get W p ≡ Some (Some x)
-        by None e none = absurd (none x.level x.length reached)
+        by None e none = absurd (none x.level x.length x.wild reached)
         by (Some y) e (own, least) =
-            let nearer = least x.level x.length reached in
+            let nearer = least x.level x.length x.wild reached in
             let le = no_longer y nearer in
-            let back = reached_same T S m p y.level y.length level (turned m S T agree) is (omega (arith, le, short)) own in
-            let same = same_reach x y (here.1 y.level y.length back) nearer in
+            let back = reached_same T S m p y.level y.length y.wild level (turned m S T agree) is (omega (arith, le, short)) own in
+            let same = same_reach x y (here.1 y.level y.length y.wild back) nearer in
             e ∙ ap (λ (r : Reach). Some (Some r)) (sym same)
 
     step_same : (P Q : List Step) → AreStepsBy g R P → AreStepsBy g W Q → (i : ℕ) (s : Step) → slice_get P i ≡ Some s → s.way < m + 1 → (j : ℕ) × (slice_get Q j ≡ Some s)
@@ -211,7 +214,7 @@ module _ (g : Graph) (shorter : AreLevelsShorter g) where
       let own = round.steps_by.each i step at in
       let way : step.way ≡ own.reach.length - own.level.least = ap (λ (t : Step). t.way) own.is_step in
       let reached = (round.shortest.shortest step.place (Some own.reach) own.is_reach).0 in
-      let less = outer_less g shorter S step.place own.reach.level own.reach.length own.level own.is_level reached in
+      let less = outer_less g shorter S step.place own.reach.level own.reach.length own.reach.wild own.level own.is_level reached in
       (omega (arith, way, less), omega (arith, way, reached.has_room))
 
   -- steps that stay the same lie in earlier ones
@@ -227,11 +230,11 @@ module _ (g : Graph) (shorter : AreLevelsShorter g) where
       outer : step.outer ≡ own.reach.level
       outer = ap (λ (t : Step). t.outer) own.is_step
 
-      reached : IsReached g S step.place own.reach.level own.reach.length
+      reached : IsReached g S step.place own.reach.level own.reach.length own.reach.wild
       reached = (round.shortest.shortest step.place (Some own.reach) own.is_reach).0
 
       less : reached.stage.way < step.way
-      less = let l = outer_less g shorter S step.place own.reach.level own.reach.length own.level own.is_level reached in omega (arith, l, way)
+      less = let l = outer_less g shorter S step.place own.reach.level own.reach.length own.reach.wild own.level own.is_level reached in omega (arith, l, way)
 
       earlier : (k : ℕ) (s : Step) → slice_get S k ≡ Some s → s.way < step.way → (k < i) ⊎ (i ≤ k) → k < i
       earlier k s is below (inl h) = h
@@ -291,21 +294,24 @@ round_levels g steps next reached round i step at = let own = round.steps_by.eac
 -- ---- the same steps
 
 abbrev step_eq : Step → Step → Bool
-step_eq s t = (s.place == t.place) && ((s.way == t.way) && (s.outer == t.outer))
+step_eq s t = (s.place == t.place) && ((s.way == t.way) && (beq s.wild t.wild && (s.outer == t.outer)))
 
 step_decides : (s t : Step) → Decides (step_eq s t) (s ≡ t)
 step_decides s t = (
   (λ e.
-      let first = and_parts (s.place == t.place) ((s.way == t.way) && (s.outer == t.outer)) e in
-      let second = and_parts (s.way == t.way) (s.outer == t.outer) first.1 in
+      let first = and_parts (s.place == t.place) ((s.way == t.way) && (beq s.wild t.wild && (s.outer == t.outer))) e in
+      let second = and_parts (s.way == t.way) (beq s.wild t.wild && (s.outer == t.outer)) first.1 in
+      let third = and_parts (beq s.wild t.wild) (s.outer == t.outer) second.1 in
       let place : s.place ≡ t.place = eqb-true s.place t.place first.0 in
       let way : s.way ≡ t.way = eqb-true s.way t.way second.0 in
-      let outer : s.outer ≡ t.outer = eqb-true s.outer t.outer second.1 in
-      λ i. record { place = place i; way = way i; outer = outer i }),
+      let wild : s.wild ≡ t.wild = (booleans_Decides s.wild t.wild).0 third.0 in
+      let outer : s.outer ≡ t.outer = eqb-true s.outer t.outer third.1 in
+      λ i. record { place = place i; way = way i; wild = wild i; outer = outer i }),
   (λ e.
       subst (λ (x : Step). step_eq s x ≡ true) e
-      (and_from (s.place == s.place) ((s.way == s.way) && (s.outer == s.outer)) (eq-eqb s.place s.place refl)
-      (and_from (s.way == s.way) (s.outer == s.outer) (eq-eqb s.way s.way refl) (eq-eqb s.outer s.outer refl)))),
+      (and_from (s.place == s.place) ((s.way == s.way) && (beq s.wild s.wild && (s.outer == s.outer))) (eq-eqb s.place s.place refl)
+      (and_from (s.way == s.way) (beq s.wild s.wild && (s.outer == s.outer)) (eq-eqb s.way s.way refl)
+      (and_from (beq s.wild s.wild) (s.outer == s.outer) ((booleans_Decides s.wild s.wild).1 refl) (eq-eqb s.outer s.outer refl))))),
 )
 
 pub steps_decide : (xs ys : List Step) (r : Bool) → r ≡ pointwise step_eq xs ys → Decides r (xs ≡ ys)

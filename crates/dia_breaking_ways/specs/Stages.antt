@@ -20,7 +20,7 @@ pub record HasPlaces (listed : List (ℕ × ℕ)) (places : List ℕ) : Type 0 w
 
 -- the level, with the places that its rules list
 pub record IsStage (stage : Option Stage) (own : OwnStage) : Type 0 where
-  pub is_stage : stage ≡ Some (record { way = own.way; exits = plain_exits own.exits.now })
+  pub is_stage : stage ≡ Some (record { way = own.way; wild = own.wild; exits = plain_exits own.exits.now })
   pub places : HasPlaces own.exits.now.listed.items own.places.items
 
 -- each of the steps leads to a level

@@ -1,5 +1,5 @@
 -- The shortest ways to the levels of messages, and to the AVPs in them.
-use Rattle.std.specs.Prelude.{◌⊎◌, ◌≡◌, ℕ, zero, suc, ◌+◌, ◌-◌, ◌<◌, ◌≤◌, List, length, map, Option, Some, None, option_map, option_and_then, slice_get, Contains}
+use Rattle.std.specs.Prelude.{◌⊎◌, ◌≡◌, ℕ, zero, suc, ◌+◌, ◌-◌, ◌<◌, ◌≤◌, Bool, true, false, ◌||◌, List, length, map, Option, Some, None, option_map, option_and_then, slice_get, Contains}
 use Rattle.dia_breaking_ways.specs.declared.graph.Exits.{Exits}
 use Rattle.dia_breaking_ways.specs.declared.graph.Level.{Level}
 use Rattle.dia_breaking_ways.specs.declared.graph.Node.{Node}
@@ -48,19 +48,24 @@ level_of graph place = option_and_then (λ (node : PlainNode). node.level) (slic
 
 -- ---- levels in messages
 
--- a level in a message: what the message takes at least around it, and where it leads
+-- a level in a message: what the message takes at least around it, whether an AVP around it comes through a wildcard, and where it
+-- leads
 pub record Stage : Type 0 where
   pub way : ℕ
+  pub wild : Bool
   pub exits : PlainExits
 
--- the level of the AVP at a place, at the end of a way
-abbrev pub stage_of : Graph → ℕ → ℕ → Option Stage
-stage_of graph place way = option_map (λ (level : PlainLevel). record { way = way; exits = level.exits }) (level_of graph place)
+-- the level of a step's AVP
+abbrev pub stage_by : Step → PlainLevel → Stage
+stage_by step level = record { way = step.way; wild = step.wild; exits = level.exits }
+
+abbrev pub stage_of : Graph → Step → Option Stage
+stage_of graph step = option_map (stage_by step) (level_of graph step.place)
 
 -- the level with a number: the start, or that of a step
 abbrev pub stage_at : Graph → List Step → ℕ → Option Stage
-stage_at graph steps zero = Some (record { way = 0; exits = graph.start })
-stage_at graph steps (suc i) = option_and_then (λ (step : Step). stage_of graph step.place step.way) (slice_get steps i)
+stage_at graph steps zero = Some (record { way = 0; wild = false; exits = graph.start })
+stage_at graph steps (suc i) = option_and_then (stage_of graph) (slice_get steps i)
 
 -- ---- ways to AVPs
 
@@ -74,6 +79,10 @@ pub data Leads (nodes : List PlainNode) (exits : PlainExits) (place : ℕ) (leng
   By_wildcard : (node : PlainNode) (is_node : slice_get nodes place ≡ Some node) (unlisted : IsUnlisted exits.listed place) (is_length : length ≡ exits.beside + node.other)
       → Leads nodes exits place length
 
+abbrev pub is_by_wildcard : {nodes : List PlainNode} {exits : PlainExits} {place length : ℕ} → Leads nodes exits place length → Bool
+is_by_wildcard (By_rule lists) = false
+is_by_wildcard (By_wildcard node is_node unlisted is_length) = true
+
 -- where the start leads, or a level of the graph
 abbrev pub HasExits : Graph → PlainExits → Type 0
 HasExits graph exits = (exits ≡ graph.start) ⊎ ((place : ℕ) × (level : PlainLevel) × (level_of graph place ≡ Some level) × (exits ≡ level.exits))
@@ -83,29 +92,36 @@ abbrev pub AreLevelsShorter : Graph → Type 0
 AreLevelsShorter graph = (exits : PlainExits) (place length : ℕ) (level : PlainLevel) → HasExits graph exits → Leads graph.nodes exits place length → level_of graph place ≡ Some level
     → level.least < length
 
--- the level with a number holds an AVP of the place, in a message of a length
-pub record IsReached (graph : Graph) (steps : List Step) (place number total : ℕ) : Type 0 where
+-- the level with a number holds an AVP of the place, in a message of a length; it, or an AVP around it, comes through a wildcard or not
+pub record IsReached (graph : Graph) (steps : List Step) (place number total : ℕ) (wild : Bool) : Type 0 where
   pub stage : Stage
   pub inner : ℕ
   pub is_stage : stage_at graph steps number ≡ Some stage
   pub leads : Leads graph.nodes stage.exits place inner
   pub is_total : total ≡ stage.way + inner
+  pub is_wild : wild ≡ (is_by_wildcard leads || stage.wild)
   pub has_room : total ≤ graph.room
 
--- no longer, and of one length in no later level
-abbrev pub IsNoLater : Reach → ℕ → ℕ → Type 0
-IsNoLater reach number total = (reach.length < total) ⊎ ((reach.length ≡ total) × (reach.level ≤ number))
+-- the one way is by rules alone, the other goes through a wildcard
+abbrev pub IsPlainer : Bool → Bool → Type 0
+IsPlainer wild other = (wild ≡ false) × (other ≡ true)
 
--- nothing reaches the place, or this is the shortest way to it, of these the one in the first level
+-- shorter; of one length by rules alone, where the other goes through a wildcard; or else in no later level
+abbrev pub IsNoLater : Reach → ℕ → ℕ → Bool → Type 0
+IsNoLater reach number total wild = (reach.length < total) ⊎ ((reach.length ≡ total) × (IsPlainer reach.wild wild ⊎ ((reach.wild ≡ wild) × (reach.level ≤ number))))
+
+-- nothing reaches the place, or this is the shortest way to it: of these one by rules alone, if there is one, and then the one in
+-- the first level
 abbrev pub IsShortest : Graph → List Step → ℕ → Option Reach → Type 0
-IsShortest graph steps place None = (number total : ℕ) → ¬ IsReached graph steps place number total
-IsShortest graph steps place (Some reach) = IsReached graph steps place reach.level reach.length × ((number total : ℕ) → IsReached graph steps place number total → IsNoLater reach number total)
+IsShortest graph steps place None = (number total : ℕ) (wild : Bool) → ¬ IsReached graph steps place number total wild
+IsShortest graph steps place (Some reach) =
+    IsReached graph steps place reach.level reach.length reach.wild × ((number total : ℕ) (wild : Bool) → IsReached graph steps place number total wild → IsNoLater reach number total wild)
 
 -- ---- steps
 
 -- a step to the level of the AVP at a place, by the shortest way to it
 abbrev pub step_to : ℕ → PlainLevel → Reach → Step
-step_to place level reach = record { place = place; way = reach.length - level.least; outer = reach.level }
+step_to place level reach = record { place = place; way = reach.length - level.least; wild = reach.wild; outer = reach.level }
 
 -- a step is the one to its AVP's level
 pub record IsStep (graph : Graph) (reached : List (Option Reach)) (step : Step) : Type 0 where

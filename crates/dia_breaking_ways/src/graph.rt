@@ -32,6 +32,8 @@ pub struct Step {
     pub place: usize,
     /// What the message takes at least around the level.
     pub way: u64,
+    /// Whether the group's AVP, or one around it, comes through a wildcard.
+    pub wild: bool,
     /// The level round it: 0 is the start, the command's level, and i + 1 that of step i.
     pub outer: usize,
 }
@@ -43,6 +45,8 @@ pub struct Reach {
     pub level: usize,
     /// What the AVPs of a shortest message with one take.
     pub length: u64,
+    /// Whether the AVP, or one around it, comes through a wildcard.
+    pub wild: bool,
 }
 
 /// The shortest ways from a start to the levels of groups, and to AVPs.

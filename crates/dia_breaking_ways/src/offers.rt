@@ -1,6 +1,6 @@
 //! The shortest ways that are known so far.
 ghost use Rattle.std.specs.Prelude.{◌+◌, ◌≤◌, ◌↔◌, length, SomeIff, IsTrue};
-ghost use Rattle.dia_breaking_ways.specs.Offers.{IsEarlier, IsOffered, AreOffered};
+ghost use Rattle.dia_breaking_ways.specs.Offers.{IsEarlier, IsOffered, IsSooner, AreOffered};
 
 use crate::graph::Reach;
 
@@ -15,15 +15,25 @@ pub(crate) fn within(room: u64, a: u64, b: u64) -> Option<u64>
     }
 }
 
-/// Whether a way is shorter than the one that is known, or as long and in an earlier level.
+/// Whether a way is shorter than another; or as long, and by rules alone where the other isn't; or else in an earlier level.
+fn is_sooner(reach: Reach, other: Reach) -> bool
+    ensures { IsTrue result ↔ IsSooner reach other }
+{
+    if reach.length != other.length {
+        reach.length < other.length
+    } else if reach.wild != other.wild {
+        other.wild
+    } else {
+        reach.level < other.level
+    }
+}
+
+/// Whether a way comes before the one that is known.
 fn is_earlier(known: Option<Reach>, reach: Reach) -> bool
     ensures { IsTrue result ↔ IsEarlier known reach }
 {
     match known {
-        Some(other) => {
-            reach.length < other.length
-                || (reach.length == other.length && reach.level < other.level)
-        }
+        Some(other) => is_sooner(reach, other),
         None => true,
     }
 }
@@ -43,13 +53,19 @@ pub(crate) fn offer_listed(
     room: u64,
     level: usize,
     way: u64,
+    wild: bool,
     listed: &[(usize, u64)],
 )
-    ensures { AreOffered best.old.items best.new.items room level way listed.now (length listed.now) }
+    ensures { AreOffered best.old.items best.new.items room level way wild listed.now (length listed.now) }
 {
     for (place, inner) in listed {
         if let Some(length) = within(room, way, *inner) {
-            offer(best, *place, Reach { level, length });
+            let reach = Reach {
+                level,
+                length,
+                wild,
+            };
+            offer(best, *place, reach);
         }
     }
 }

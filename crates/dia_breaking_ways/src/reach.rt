@@ -27,7 +27,14 @@ fn reach_listed(room: u64, stages: &[Stage<'_>], best: &mut Vec<Option<Reach>>)
 {
     for level in 0..stages.len() {
         let stage = &stages[level];
-        offer_listed(best, room, level, stage.way, &stage.exits.listed);
+        offer_listed(
+            best,
+            room,
+            level,
+            stage.way,
+            stage.wild,
+            &stage.exits.listed,
+        );
     }
 }
 
@@ -48,8 +55,12 @@ fn reach_others(
             continue;
         };
         if let Some(length) = within(ways.room, opening.length, node.other) {
-            let level = opening.level;
-            offer(best, place, Reach { level, length });
+            let reach = Reach {
+                level: opening.level,
+                length,
+                wild: true,
+            };
+            offer(best, place, reach);
         }
     }
 }

@@ -15,12 +15,29 @@ enum Event {
     Open(Option<usize>),
 }
 
+/// The way to an AVP that is the best so far.
+#[derive(Clone, Copy)]
+struct Known {
+    length: u64,
+    /// Whether it goes through a wildcard.
+    wild: bool,
+    /// The group whose level holds the AVP.
+    group: Option<usize>,
+}
+
+impl Known {
+    /// Whether this way is shorter than the other; or as long, and by rules alone where the other isn't.
+    fn is_nearer(&self, other: &Known) -> bool {
+        self.length < other.length || (self.length == other.length && !self.wild && other.wild)
+    }
+}
+
 /// A search over the levels of groups.
 #[derive(Drop)]
 struct Search<'a> {
     ways: Ways<'a>,
-    /// The length of the shortest way that is known to each AVP, and the group whose level then holds the AVP.
-    nearest: Vec<Option<(u64, Option<usize>)>>,
+    /// The best way that is known to each AVP.
+    nearest: Vec<Option<Known>>,
     /// The levels that were visited, with their ways. Their `outer` isn't set yet.
     steps: Vec<Step>,
     entered: HashSet<usize>,
@@ -88,7 +105,14 @@ impl<'a> Search<'a> {
 
     fn outer_of(&self, place: usize, numbers: &HashMap<usize, usize>) -> usize {
         match self.nearest.get(place) {
-            Some(Some((_, Some(group)))) => numbers.get(group).copied().unwrap_or(0),
+            Some(
+                Some(
+                    Known {
+                        group: Some(group),
+                        ..
+                    },
+                ),
+            ) => numbers.get(group).copied().unwrap_or(0),
             _ => 0,
         }
     }
@@ -107,9 +131,11 @@ impl<'a> Search<'a> {
         if !self.entered.insert(place)? {
             return Ok(());
         }
+        let wild = self.is_wild(Some(place));
         self.steps.push(Step {
             place,
             way,
+            wild,
             outer: 0,
         })?;
         self.go_through(way, Some(place))
@@ -120,8 +146,17 @@ impl<'a> Search<'a> {
         let Some(exits) = self.exits_of(group) else {
             return Ok(());
         };
+        let wild = self.is_wild(group);
         for (place, length) in &exits.listed {
-            self.come_to(*place, way.saturating_add(*length), group)?;
+            let length = way.saturating_add(*length);
+            self.come_to(
+                *place,
+                Known {
+                    length,
+                    wild,
+                    group,
+                },
+            )?;
         }
         self.expect(way.saturating_add(exits.beside), Event::Open(group))
     }
@@ -138,35 +173,41 @@ impl<'a> Search<'a> {
         nodes.get(place)?.level.as_ref()
     }
 
-    /// Visits an AVP in the level of a group, if a message has room for it there, and schedules its own level.
-    fn come_to(
-        &mut self,
-        place: usize,
-        length: u64,
-        group: Option<usize>,
-    ) -> Result<(), AllocError> {
-        if self.ways.room < length || !self.is_nearer(place, length, group) {
+    /// Whether the way to the level of a group goes through a wildcard.
+    fn is_wild(&self, group: Option<usize>) -> bool {
+        let Some(place) = group else {
+            return false;
+        };
+        match self.nearest.get(place) {
+            Some(Some(known)) => known.wild,
+            _ => false,
+        }
+    }
+
+    /// Visits an AVP by a way, if a message has room for it, and schedules the AVP's own level.
+    fn come_to(&mut self, place: usize, way: Known) -> Result<(), AllocError> {
+        if self.ways.room < way.length || !self.improve(place, way) {
             return Ok(());
         }
         match self.level_of(place) {
-            Some(level) => self.expect(length.saturating_sub(level.least), Event::Enter(place)),
+            Some(level) => self.expect(way.length.saturating_sub(level.least), Event::Enter(place)),
             None => Ok(()),
         }
     }
 
-    /// Records a way to the AVP if it is shorter than the known one. Answers whether it is.
-    fn is_nearer(&mut self, place: usize, length: u64, group: Option<usize>) -> bool {
+    /// Records a way to the AVP if it is better than the known one. Answers whether it is.
+    fn improve(&mut self, place: usize, way: Known) -> bool {
         let Some(known) = self.nearest.get_mut(place) else {
             return false;
         };
-        let is_nearer = match *known {
-            Some((other, _)) => length < other,
+        let is_better = match known {
+            Some(other) => way.is_nearer(other),
             None => true,
         };
-        if is_nearer {
-            *known = Some((length, group));
+        if is_better {
+            *known = Some(way);
         }
-        is_nearer
+        is_better
     }
 
     /// Visits the AVPs that come through the wildcard of a level. `length` is what a message takes besides one.
@@ -206,7 +247,14 @@ impl<'a> Search<'a> {
     ) -> Result<(), AllocError> {
         let nodes = self.ways.nodes;
         match nodes.get(place) {
-            Some(node) => self.come_to(place, beside.saturating_add(node.other), group),
+            Some(node) => self.come_to(
+                place,
+                Known {
+                    length: beside.saturating_add(node.other),
+                    wild: true,
+                    group,
+                },
+            ),
             None => Ok(()),
         }
     }

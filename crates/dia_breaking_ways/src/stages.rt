@@ -12,6 +12,8 @@ use std::alloc::{AllocError, Global};
 pub(crate) struct Stage<'a> {
     /// What the message takes at least around it.
     pub way: u64,
+    /// Whether an AVP around it comes through a wildcard.
+    pub wild: bool,
     pub exits: &'a Exits,
     /// The places that a rule lists, in order.
     pub places: Vec<usize>,
@@ -30,11 +32,16 @@ fn places_of(alloc: Global, listed: &[(usize, u64)]) -> Result<Vec<usize>, Alloc
 }
 
 impl<'a> Stage<'a> {
-    fn new(alloc: Global, way: u64, exits: &'a Exits) -> Result<Self, AllocError>
-        ensures { IfOk result (λ stage. IsStage (Some (record { way = way; exits = plain_exits exits.now })) stage) }
+    fn new(alloc: Global, way: u64, wild: bool, exits: &'a Exits) -> Result<Self, AllocError>
+        ensures { IfOk result (λ stage. IsStage (Some (record { way = way; wild = wild; exits = plain_exits exits.now })) stage) }
     {
         let places = places_of(alloc, &exits.listed)?;
-        Ok(Stage { way, exits, places })
+        Ok(Stage {
+            way,
+            wild,
+            exits,
+            places,
+        })
     }
 
     /// Whether a rule lists the place.
@@ -46,10 +53,10 @@ impl<'a> Stage<'a> {
     }
 }
 
-/// The level of a step's group, at the end of its way.
+/// The level of a step's group.
 fn stage_of<'a>(alloc: Global, ways: Ways<'a>, step: Step) -> Result<Option<Stage<'a>>, AllocError>
     ensures stage { IfOk result (λ found. IfSome found (λ stage.
-        IsStage (stage_of (graph_in ways.entry) step.place step.way) stage)) }
+        IsStage (stage_of (graph_in ways.entry) step) stage)) }
     ensures found { IfOk result (λ found. found ≡ None → level_of (graph_in ways.entry) step.place ≡ None) }
 {
     let Some(node) = ways.nodes.get(step.place) else {
@@ -58,7 +65,7 @@ fn stage_of<'a>(alloc: Global, ways: Ways<'a>, step: Step) -> Result<Option<Stag
     let Some(level) = &node.level else {
         return Ok(None);
     };
-    Ok(Some(Stage::new(alloc, step.way, &level.exits)?))
+    Ok(Some(Stage::new(alloc, step.way, step.wild, &level.exits)?))
 }
 
 /// The levels of a message: the start, and those of the steps.
@@ -72,7 +79,7 @@ pub(crate) fn stages<'a>(
     ensures found { HaveLevels (graph_in ways.entry) steps.now → IfOk result (λ found. IsSome found) }
 {
     let mut stages = Vec::new(alloc);
-    stages.push(Stage::new(alloc, 0, ways.start)?)?;
+    stages.push(Stage::new(alloc, 0, false, ways.start)?)?;
     for step in steps {
         let Some(stage) = stage_of(alloc, ways, *step)? else {
             return Ok(None);

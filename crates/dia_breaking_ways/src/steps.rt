@@ -41,6 +41,7 @@ fn step_at(ways: Ways<'_>, reached: &[Option<Reach>], place: usize) -> Option<St
     Some(Step {
         place,
         way: reach.length.saturating_sub(level.least),
+        wild: reach.wild,
         outer: reach.level,
     })
 }

@@ -1,5 +1,5 @@
 -- The levels of a dictionary's graph, and where they lead.
-use Rattle.std.proofs.Common.{◌≡◌, ℕ, zero, suc, ◌+◌, ◌<◌, ◌≤◌, List, [], ◌∷◌, length, Option, Some, None, refl, sym, ap, subst, ◌∙◌, arith, inl, inr}
+use Rattle.std.proofs.Common.{◌≡◌, ℕ, zero, suc, ◌+◌, ◌<◌, ◌≤◌, List, [], ◌∷◌, length, Option, Some, None, false, refl, sym, ap, subst, ◌∙◌, arith, inl, inr}
 use Rattle.std.specs.Prelude.{◌⊎◌, slice_get, Contains, option_and_then}
 use Rattle.std.specs.Option.{option_map, option_map_or}
 use Rattle.std.proofs.lemmas.List.Elements.{Contains-append_left, Contains-push, Contains-push_cases}
@@ -9,7 +9,7 @@ use Rattle.dia_book.specs.Dictionary.{Dictionary, PlainDefinition, definitions, 
 use Rattle.dia_book.specs.Limits.{max_parts}
 use Rattle.dia_book.proofs.Members.{at_Contains, at_filter_map}
 use Rattle.dia_valid.proofs.Members.{contains_in, in_at, in_contains, in_filter_map}
-use Rattle.dia_breaking_ways.specs.Walks.{HasExits, Leads, PlainExits, PlainLevel, PlainNode, level_of}
+use Rattle.dia_breaking_ways.specs.Walks.{HasExits, Leads, PlainExits, PlainLevel, PlainNode, is_by_wildcard, level_of}
 use Rattle.dia_breaking_ways.specs.Walks.Leads.{By_rule, By_wildcard}
 use Rattle.dia_places.specs.Paths.{group_by, rules_at}
 use Rattle.dia_places.specs.Graph.{commands_from, exits_to, graph_in, level_by, listed_by, node_by, one_step}
@@ -77,6 +77,13 @@ command_here first (suc n) i lt = by (command_here first n i) cases_le
 pub leads_listed : (d : Dictionary) (listed : List (ℕ × ℕ)) (p inner way : ℕ) → Leads (graph_in d).nodes (exits_to listed) p inner → way + inner ≤ max_parts → Contains listed (p, inner)
 leads_listed d listed p inner way (By_rule lists) room = lists
 leads_listed d listed p inner way (By_wildcard node at unlisted is) room = absurd (let e : inner ≡ max_parts + 1 + node.other = is in omega arith)
+
+-- no wildcard leads anywhere
+pub leads_plain : (d : Dictionary) (exits : PlainExits) (listed : List (ℕ × ℕ)) (p inner way : ℕ) → exits ≡ exits_to listed → (leads : Leads (graph_in d).nodes exits p inner) → way + inner ≤ max_parts
+    → is_by_wildcard leads ≡ false
+leads_plain d exits listed p inner way same (By_rule lists) room = refl
+leads_plain d exits listed p inner way same (By_wildcard node at unlisted is) room =
+    absurd (let beside : exits.beside ≡ max_parts + 1 = ap (λ (x : PlainExits). x.beside) same in let e : inner ≡ exits.beside + node.other = is in omega (arith, room, beside, e))
 
 one_long : (d : Dictionary) (listed : List (ℕ × ℕ)) (p inner : ℕ) → ((q m : ℕ) → Contains listed (q, m) → m ≡ 1) → Leads (graph_in d).nodes (exits_to listed) p inner → 0 < inner
 one_long d listed p inner ones (By_rule lists) = omega (arith, ones p inner lists)

@@ -133,7 +133,7 @@ module _ (d : Dictionary) (small : length (definitions d) ≤ max_parts) (S : Li
 
   -- of two steps to one definition neither is longer
   no_longer : (i j : ℕ) (s t : Step) → slice_get S i ≡ Some s → slice_get S j ≡ Some t → s.place ≡ t.place → s.way ≤ t.way
-  no_longer i j s t at to same = by (steps.is_least d S R w i s at t.outer t.way (subst (λ (q : ℕ). walks.IsReached (graph_in d) S q t.outer t.way) (sym same) (steps.is_reached d S R w j t to)))
+  no_longer i j s t at to same = by (steps.is_least d S R w i s at t.outer t.way t.wild (subst (λ (q : ℕ). walks.IsReached (graph_in d) S q t.outer t.way t.wild) (sym same) (steps.is_reached d S R w j t to)))
     where
       by : (s.way < t.way) ⊎ ((s.way ≡ t.way) × (s.outer ≤ t.outer)) → s.way ≤ t.way
       by (inl less) = omega arith

@@ -5,7 +5,7 @@ use Rattle.dia_breaking_ways.proofs.offers.offer_listed.Goals.{in-Some, in_defau
 use Rattle.dia_breaking_ways.proofs.offers.offer_listed.Goals as goal
 
 pub loop-place-init : goal.loop-place-init
-loop-place-init c = are_offered_none c.args.best.now.items c.args.room c.args.level c.args.way c.args.listed.now
+loop-place-init c = are_offered_none c.args.best.now.items c.args.room c.args.level c.args.way c.args.wild c.args.listed.now
 
 pub loop-place-preserved : goal.loop-place-preserved
 loop-place-preserved c =
@@ -16,9 +16,9 @@ loop-place-preserved c =
     elim c.match-within.branch [
       | in-Some w ↦
           let f = fits_some c.within.result (c.args.way + e.1 ≤ c.args.room) (c.args.way + e.1) w.in-Some.length w.in-Some.is c.within.ensures in
-          rw w.best-is (are_offered_more c.args.best.now.items c.loop-place.best.items w.offer.new.best.items c.args.room c.args.level c.args.way xs i e.0 e.1 w.in-Some.length c.loop-place.invariant
+          rw w.best-is (are_offered_more c.args.best.now.items c.loop-place.best.items w.offer.new.best.items c.args.room c.args.level c.args.way c.args.wild xs i e.0 e.1 w.in-Some.length c.loop-place.invariant
           at f.0 f.1 w.offer.ensures)
       | in_default w ↦
           let f = fits_none c.within.result (c.args.way + e.1 ≤ c.args.room) (c.args.way + e.1) w.in_default.is c.within.ensures in
-          rw w.best-is (are_offered_past c.args.best.now.items c.loop-place.best.items c.args.room c.args.level c.args.way xs i e.0 e.1 c.loop-place.invariant at f)
+          rw w.best-is (are_offered_past c.args.best.now.items c.loop-place.best.items c.args.room c.args.level c.args.way c.args.wild xs i e.0 e.1 c.loop-place.invariant at f)
     ]

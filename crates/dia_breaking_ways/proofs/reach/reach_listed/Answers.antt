@@ -10,5 +10,5 @@ loop-level-preserved c =
     let i = c.loop-level.level in
     let own = c.index-stages-level.result in
     let at = slice_get_read xs (length xs) i own refl (omega arith) c.index-stages-level.is in
-    let o = subst (λ (l : List (ℕ × ℕ)). AreOffered c.loop-level.best.items c.offer_listed.new.best.items c.args.room i own.way l (length l)) c.deref.ensures.value c.offer_listed.ensures in
+    let o = subst (λ (l : List (ℕ × ℕ)). AreOffered c.loop-level.best.items c.offer_listed.new.best.items c.args.room i own.way own.wild l (length l)) c.deref.ensures.value c.offer_listed.ensures in
     listed_more c.args.room xs i c.args.best.now.items c.loop-level.best.items c.offer_listed.new.best.items own c.loop-level.invariant at o

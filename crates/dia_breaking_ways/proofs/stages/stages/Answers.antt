@@ -15,7 +15,7 @@ loop-step-preserved c =
     let g = graph_in c.args.ways in
     let steps = c.args.steps.now in
     let i = c.loop-step.step-index in
-    let none : Step = record { place = 0; way = 0; outer = 0 } in
+    let none : Step = record { place = 0; way = 0; wild = false; outer = 0 } in
     let s : Step = get_or steps i none in
     let at = slice_get-get_or steps i none (omega arith) in
     rw c.in_ok-push-2.ensures.items (stages_more g steps i c.loop-step.stages.items s c.in-Some.stage c.loop-step.invariant at (rw c.in-Some.is at c.in_ok-stage.ensures.stage))
@@ -25,7 +25,7 @@ returns-in_default-clause-found c = λ have.
     let g = graph_in c.args.ways in
     let steps = c.args.steps.now in
     let i = c.loop-step.step-index in
-    let none : Step = record { place = 0; way = 0; outer = 0 } in
+    let none : Step = record { place = 0; way = 0; wild = false; outer = 0 } in
     let s : Step = get_or steps i none in
     let at = slice_get-get_or steps i none (omega arith) in
     let missing = c.in_ok-stage.ensures.found c.in_default.is in

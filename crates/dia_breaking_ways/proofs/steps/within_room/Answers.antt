@@ -1,4 +1,4 @@
-use Rattle.std.proofs.Common.{◌≡◌, get_or, Option, Some, None, refl, sym, ◌∙◌, true}
+use Rattle.std.proofs.Common.{◌≡◌, get_or, Option, Some, None, refl, sym, ◌∙◌, true, false}
 use Rattle.std.specs.Prelude.{IsSome, is_some, option_map}
 use Rattle.std.proofs.lemmas.Option.{none-some}
 use Rattle.dia_breaking_ways.specs.declared.graph.Step.{Step}
@@ -18,7 +18,7 @@ loop-step-init c = rw c.new-steps.ensures.items (λ i s e. absurd (none-some s e
 pub loop-step-preserved : goal.loop-step-preserved
 loop-step-preserved c =
     let g = graph_in c.args.ways in
-    let none : Step = record { place = 0; way = 0; outer = 0 } in
+    let none : Step = record { place = 0; way = 0; wild = false; outer = 0 } in
     let step = get_or c.args.rough.now c.loop-step.step-index none in
     let steps = c.loop-step.steps.items in
     elim c.if-step-gt0.branch [

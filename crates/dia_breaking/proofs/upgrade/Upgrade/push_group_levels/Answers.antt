@@ -1,4 +1,4 @@
-use Rattle.std.proofs.Common.{ℕ, [], get_or, map, subst, arith}
+use Rattle.std.proofs.Common.{ℕ, false, [], get_or, map, subst, arith}
 use Rattle.std.specs.Prelude.{slice_get}
 use Rattle.dia_breaking_ways.specs.declared.graph.Step.{Step}
 use Rattle.std.specs.Option.{option_map_or}
@@ -16,7 +16,7 @@ loop-index-preserved g c =
     let f = group_levels c.args.count groups in
     let steps = c.args.steps.now in
     let i = c.loop-index.index in
-    let no_step : Step = record { place = 0; outer = 0; way = 0 } in
+    let no_step : Step = record { place = 0; outer = 0; wild = false; way = 0 } in
     let step = get_or steps i no_step in
     adds_part (λ k. option_map_or (f k) (slice_get steps k) []) i _ _ _ c.loop-index.invariant
     (adds_at (f i) steps i step _ _ (slice_get-get_or steps i no_step (omega arith))
