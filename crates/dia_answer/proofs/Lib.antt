@@ -14,3 +14,4 @@ pub mod Results
 pub mod Reasons
 pub mod Replies
 pub mod Building
+pub mod CerAnswers

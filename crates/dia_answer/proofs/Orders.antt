@@ -103,6 +103,31 @@ order_keeps key rules avps are =
     joined true xs = append-nil xs
     joined false xs = refl
 
+-- ---- what isn't there
+
+filter_lacks : {X : Type 0} (p q : X → Bool) (xs : List X) → filter p xs ≡ [] → filter p (filter q xs) ≡ []
+filter_lacks p q [] h = refl
+filter_lacks {X} p q (x ∷ xs) h = by (p x) (q x) refl h (filter_lacks p q xs)
+  where
+    by : (s t : Bool) → p x ≡ s → cond s (x ∷ filter p xs) (filter p xs) ≡ [] → (filter p xs ≡ [] → filter p (filter q xs) ≡ []) → filter p (cond t (x ∷ filter q xs) (filter q xs)) ≡ []
+    by true t e g ih = absurd cc
+    by false true e g ih = ap (λ (c : Bool). cond c (x ∷ filter p (filter q xs)) (filter p (filter q xs))) e ∙ ih g
+    by false false e g ih = ih g
+
+flat_map-none : {X Y : Type 0} (f : X → List Y) (xs : List X) → ((x : X) → f x ≡ []) → flat_map f xs ≡ []
+flat_map-none f [] h = refl
+flat_map-none {X} {Y} f (x ∷ xs) h = ap (λ (ys : List Y). ys ++ flat_map f xs) (h x) ∙ flat_map-none f xs h
+
+-- a key that no AVP has is none of theirs in any order
+pub order_lacks : (key : Key) (rules : List DRule) (avps : List PlainAvp) → of_key key avps ≡ [] → of_key key (in_order rules avps) ≡ []
+order_lacks key rules avps none =
+    let p : PlainAvp → Bool = λ v. same_key key (key_of v) in
+    let rest = filter (λ v. not (is_listed rules (key_of v))) avps in
+    filter-append p (flat_map (λ rule. filter (λ v. lists_key (key_of v) rule) avps) rules) rest
+    ∙ ap (λ (ys : List PlainAvp). ys ++ filter p rest)
+    (filter-flat_map p (λ rule. filter (λ v. lists_key (key_of v) rule) avps) rules ∙ flat_map-none (λ rule. filter p (filter (λ v. lists_key (key_of v) rule) avps)) rules (λ rule. filter_lacks p (λ v. lists_key (key_of v) rule) avps none))
+    ∙ filter_lacks p (λ v. not (is_listed rules (key_of v))) avps none
+
 -- ---- AVPs of one key alone
 
 no_matter : (b : Bool) (avps : List PlainAvp) → avps ≡ cond b avps avps

@@ -1,0 +1,21 @@
+//! Laws of answers.
+
+ghost use Rattle.std.specs.Prelude.{◌≡◌, ◌≢◌, ℕ, List};
+ghost use Rattle.dia_terms.specs.declared.Unknown.{Unknown as AnyUnknown};
+ghost use Rattle.dia_terms.specs.declared.Levels.{Levels as AnyLevels};
+ghost use Rattle.dia_wire.specs.declared.Header.{Header as AnyHeader};
+ghost use Rattle.dia_dict.specs.Base.{base};
+ghost use Rattle.dia_answer.specs.declared.forms.Made.{Made as AnyMade};
+ghost use Rattle.dia_answer.specs.Requests.{IsRequestHead};
+ghost use Rattle.dia_answer.specs.Reports.{HasBody, IsValidBy};
+
+use crate::forms::Form;
+
+/// By the base dictionary the answer to a CER is an error message: a CEA has a Host-IP-Address (RFC 6733 section 5.3.2), which
+/// no answer copies.
+pub fn cer_gets_error_message()
+    ensures { (u : AnyUnknown) (most : AnyLevels) (host realm request : List ℕ) (made : AnyMade)
+        (header : AnyHeader) → IsRequestHead header request → header.code ≡ 257
+        → HasBody base u most host realm request made
+        → IsValidBy base u most made.form made.bytes.items → made.form ≢ Form.Own }
+{}
