@@ -1,3 +1,5 @@
+pub mod Chosen
+pub mod Naming
 pub mod Refused
 pub mod Runs
 pub mod Unread

@@ -1,5 +1,5 @@
 -- What `mask` writes for a dictionary and the lines of messages, and how it ends.
-use Rattle.std.specs.Prelude.{◌≡◌, ◌⊎◌, ℕ, if◌then◌else◌, List, ◌++◌, codes}
+use Rattle.std.specs.Prelude.{◌≡◌, ◌⊎◌, ℕ, if◌then◌else◌, List, ◌++◌, Some, codes}
 use Rattle.std.specs.List.{flat_map}
 use Rattle.dia_io.specs.declared.Exit.{Exit}
 use Rattle.dia_io.specs.declared.Exit.TheVariants.{Yes, No, Bad}
@@ -12,10 +12,9 @@ use Rattle.dia_run.specs.Texts.{IsDictionaryText, IsNoDictionaryText}
 use Rattle.dia_mask.specs.declared.choice.Choice.{Choice}
 use Rattle.dia_mask.specs.declared.words.Words.{Words}
 use Rattle.dia_mask.specs.Words.{AreAllNumbers}
-use Rattle.dia_mask_text.specs.declared.choosing.BadName.{BadName}
 use Rattle.dia_mask_text.specs.declared.choosing.Why.{Why}
 use Rattle.dia_mask_text.specs.declared.choosing.Why.TheVariants.{Missing, Fixed, Twice}
-use Rattle.dia_mask_text.specs.Names.{Lists}
+use Rattle.dia_mask_text.specs.Names.{IsChoice, Lists, first_refused}
 use Rattle.dia_mask_text.specs.Lines.{IsLineMasked, MaskedLine, are_messages, line_text}
 
 -- yes where each line spells bytes
@@ -37,9 +36,9 @@ name_line name Missing = codes "mask: no AVP " ++ name ++ codes "\n"
 name_line name Fixed = codes "mask: " ++ name ++ codes " can't be masked\n"
 name_line name Twice = codes "mask: " ++ name ++ codes " in two lists\n"
 
--- a name of the options is refused; the dictionary is read before
-abbrev pub IsRefusedName : Lists → Input → BadName → Type 0
-IsRefusedName lists dictionary bad = (d : Dictionary) × IsDictionaryText dictionary d
+-- a name of the options is refused, under the dictionary that is read before: the first one
+abbrev pub IsRefusedName : Lists → Input → List ℕ → Why → Type 0
+IsRefusedName lists dictionary name why = (d : Dictionary) × IsDictionaryText dictionary d × (first_refused lists d ≡ Some (name, why))
 
 -- the dictionary is refused
 abbrev pub RefusesDictionary : Input → List ℕ → Type 0
@@ -48,9 +47,9 @@ RefusesDictionary input recorded = (why : List ℕ) × IsNoDictionaryText input 
 -- the dictionary, or a name of the options is refused, in one line
 pub data IsRefusal (lists : Lists) (dictionary : Input) (text : List ℕ) (exit : Exit) : Type 0 where
   no_dictionary : (recorded : List ℕ) → RefusesDictionary dictionary recorded → Refuses recorded text exit → IsRefusal lists dictionary text exit
-  bad_name : (bad : BadName) → IsRefusedName lists dictionary bad → text ≡ name_line bad.name.now bad.why → exit ≡ Bad → IsRefusal lists dictionary text exit
+  bad_name : (name : List ℕ) (why : Why) → IsRefusedName lists dictionary name why → text ≡ name_line name why → exit ≡ Bad → IsRefusal lists dictionary text exit
 
--- what `mask` writes for this dictionary and these bytes, and the exit
+-- what `mask` writes for this dictionary and these bytes, and the exit: where no name is refused, exactly the AVPs that the lists choose are masked
 abbrev pub IsMaskOutcome : Lists → Input → (bytes text : List ℕ) → Exit → Type 0
-IsMaskOutcome lists dictionary bytes text exit = ((d : Dictionary) × (choice : Choice) × IsDictionaryText dictionary d × AreMasked choice d bytes text exit)
+IsMaskOutcome lists dictionary bytes text exit = ((d : Dictionary) × (choice : Choice) × IsDictionaryText dictionary d × IsChoice lists d choice × AreMasked choice d bytes text exit)
     ⊎ IsRefusal lists dictionary text exit

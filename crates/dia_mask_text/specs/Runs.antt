@@ -15,7 +15,7 @@ use Rattle.dia_mask.specs.Runs.{words_of}
 use Rattle.dia_mask.specs.Words.{AreAllNumbers, Grows}
 use Rattle.dia_mask_text.specs.declared.answering.Answered.{Answered}
 use Rattle.dia_mask_text.specs.declared.answering.State.{State}
-use Rattle.dia_mask_text.specs.Names.{Lists}
+use Rattle.dia_mask_text.specs.Names.{IsChoice, Lists}
 use Rattle.dia_mask_text.specs.Lines.{Counts, IsLineMasked, MaskedLine, lines_of, numbered_text}
 use Rattle.dia_mask_text.specs.Outcome.{AreMasked, IsMaskOutcome, IsRefusal}
 
@@ -75,5 +75,5 @@ IsRefusalBegun lists dictionary put_old put = ((text : List ℕ) × (exit : Exit
 -- a prefix of what `mask` writes was put
 abbrev pub IsMaskBegun : Lists → Input → (fed_old fed put_old put : Option (List ℕ)) → Type 0
 IsMaskBegun lists dictionary fed_old fed put_old put =
-    ((d : Dictionary) × (choice : Choice) × IsDictionaryText dictionary d × FrontMasked choice d fed_old fed put_old put)
+    ((d : Dictionary) × (choice : Choice) × IsDictionaryText dictionary d × IsChoice lists d choice × FrontMasked choice d fed_old fed put_old put)
     ⊎ (Consumes fed_old fed [] × IsRefusalBegun lists dictionary put_old put)

@@ -1,10 +1,17 @@
 //! The AVPs that the options name.
 
+ghost use Rattle.std.specs.Prelude.{◌≡◌, IfErr, IfOk, List, Some, slice_get, ℕ};
+ghost use Rattle.std.specs.HashSet.{IsFromIterResult};
+ghost use Rattle.std.specs.Str.{bytes_eq};
+ghost use Rattle.dia_dict.specs.Dictionary.{Dictionary};
+ghost use Rattle.dia_mask_text.specs.Names.{IsChoice, fault_by, fault_in, first_refused, lists, names_of, why_not, with_faults};
+ghost use Rattle.dia_mask_text.specs.Naming.{AreKnown, IsNameList, fault_of, texts};
+
 use crate::options::Options;
-use dia_dict::{Book, Entry};
+use dia_dict::Book;
 use dia_mask::{Choice, can_be_masked};
 use std::alloc::{AllocError, Global};
-use std::collections::HashMap;
+use std::collections::{HashMap, HashSet};
 
 /// The word for AVPs that the dictionary doesn't know.
 pub(crate) const UNKNOWN: &str = "AVP";
@@ -26,29 +33,20 @@ pub(crate) enum Why {
     Twice,
 }
 
-/// What a name is for.
-#[derive(Clone, Copy, PartialEq, Eq)]
-enum Named {
-    Unknown,
-    Known(Entry),
-}
-
-/// Why the choice that the options name wasn't made.
-enum NoChoice<'a> {
-    Bad(BadName<'a>),
-    NoMemory(AllocError),
-}
-
-impl From<AllocError> for NoChoice<'_> {
-    fn from(error: AllocError) -> Self {
-        NoChoice::NoMemory(error)
-    }
-}
-
-/// The entries of a dictionary by their names.
+/// The names of a list.
 #[derive(Drop)]
-struct Names {
-    entries: HashMap<String, Entry>,
+struct NameList<'a> {
+    /// In their order.
+    names: Vec<&'a str>,
+    set: HashSet<&'a str>,
+}
+
+/// The names of all lists.
+#[derive(Drop)]
+struct NameLists<'a> {
+    keep: NameList<'a>,
+    mask: NameList<'a>,
+    only: NameList<'a>,
 }
 
 /// The AVPs of a dictionary that the options choose, or the first name that is refused.
@@ -56,124 +54,167 @@ pub(crate) fn choice_of<'a, B: Book>(
     alloc: Global,
     book: &B,
     options: &Options<'a>,
-) -> Result<Result<Choice, BadName<'a>>, AllocError> {
-    match chosen(alloc, book, options) {
-        Ok(choice) => Ok(Ok(choice)),
-        Err(NoChoice::Bad(bad)) => Ok(Err(bad)),
-        Err(NoChoice::NoMemory(error)) => Err(error),
+) -> Result<Result<Choice, BadName<'a>>, AllocError>
+    ensures choice { IfOk result (λ made. IfOk made (IsChoice (lists options.now) (B.meaning book.now))) }
+    ensures refused { IfOk result (λ made. IfErr made (λ bad.
+        first_refused (lists options.now) (B.meaning book.now) ≡ Some (bad.name.now, bad.why))) }
+{
+    let lists = NameLists::of(alloc, options)?;
+    let known = known_names(alloc, book)?;
+    match lists.first_bad(&known) {
+        Some(bad) => Ok(Err(bad)),
+        None => Ok(Ok(lists.choice(alloc, book)?)),
     }
 }
 
-fn chosen<'a, B: Book>(
-    alloc: Global,
-    book: &B,
-    options: &Options<'a>,
-) -> Result<Choice, NoChoice<'a>> {
-    if options.keep.is_empty() && options.mask.is_empty() && options.only.is_empty() {
-        return Ok(Choice::by_format(alloc, book)?);
+impl<'a> NameLists<'a> {
+    ghost use Rattle.std.specs.Prelude.{◌≡◌, IfOk};
+    ghost use Rattle.dia_dict.specs.Dictionary.{Dictionary};
+    ghost use Rattle.dia_mask.specs.Choosing.{IsChosen};
+    ghost use Rattle.dia_mask_text.specs.Names.{Lists, first_refused, is_masked_by, lists, masks_entry, masks_unknown};
+    ghost use Rattle.dia_mask_text.specs.Naming.{AreKnown, AreNameLists, fault_of};
+
+    fn of(alloc: Global, options: &Options<'a>) -> Result<NameLists<'a>, AllocError>
+        ensures { IfOk result (AreNameLists (lists options.now)) }
+    {
+        Ok(NameLists {
+            keep: NameList::of(alloc, options.keep)?,
+            mask: NameList::of(alloc, options.mask)?,
+            only: NameList::of(alloc, options.only)?,
+        })
     }
-    let names = Names::of(alloc, book)?;
-    if options.only.is_empty() {
-        changed(alloc, book, &names, options)
-    } else {
-        let mut choice = Choice::none(alloc, book)?;
-        let only = names.list(alloc, book, options.only)?;
-        set_all(&mut choice, &only, true);
+
+    /// The first name that is refused.
+    fn first_bad(&self, known: &HashMap<&str, bool>) -> Option<BadName<'a>>
+        ensures { (l : Lists) (d : Dictionary) → AreNameLists l self.now → AreKnown d known.now
+            → fault_of result ≡ first_refused l d }
+    {
+        first_unfit(known, &self.only.names)
+            .or(first_unfit(known, &self.keep.names))
+            .or(first_unfit(known, &self.mask.names))
+            .or(first_twice(&self.keep, &self.mask.names))
+    }
+
+    /// The choice by formats, changed by the lists.
+    fn choice<B: Book>(&self, alloc: Global, book: &B) -> Result<Choice, AllocError>
+        ensures { IfOk result (λ choice. (l : Lists) → AreNameLists l self.now
+            → IsChosen (masks_entry l) (masks_unknown l) (B.meaning book.now) choice) }
+    {
+        let mut choice = Choice::by_format(alloc, book)?;
+        for index in 0..book.entries() {
+            let entry = book.entry_at(index);
+            let masked = self.masks(choice.masks(entry), book.entry_name(entry));
+            choice.set(entry, masked);
+        }
+        let masked = self.masks(choice.masks_unknown(), UNKNOWN);
+        choice.set_unknown(masked);
         Ok(choice)
     }
-}
 
-/// The choice by formats, with AVPs that stay and others that are masked, too.
-fn changed<'a, B: Book>(
-    alloc: Global,
-    book: &B,
-    names: &Names,
-    options: &Options<'a>,
-) -> Result<Choice, NoChoice<'a>> {
-    let mut choice = Choice::by_format(alloc, book)?;
-    let keep = names.list(alloc, book, options.keep)?;
-    let mask = names.list(alloc, book, options.mask)?;
-    // those that stay aren't masked now
-    set_all(&mut choice, &mask, true);
-    set_all(&mut choice, &keep, false);
-    if let Some(name) = first_left(&choice, &mask, options.mask) {
-        let why = Why::Twice;
-        return Err(NoChoice::Bad(BadName { name, why }));
-    }
-    Ok(choice)
-}
-
-fn set_all(choice: &mut Choice, list: &[Named], masked: bool) {
-    for named in list {
-        match *named {
-            Named::Unknown => choice.set_unknown(masked),
-            Named::Known(entry) => choice.set(entry, masked),
+    /// Whether AVPs of a name are masked, which their format masks or not.
+    fn masks(&self, by_format: bool, name: &str) -> bool
+        ensures { (l : Lists) → AreNameLists l self.now → result ≡ is_masked_by l by_format name.now }
+    {
+        if self.only.names.is_empty() {
+            (by_format || self.mask.has(name)) && !self.keep.has(name)
+        } else {
+            self.only.has(name)
         }
     }
 }
 
-/// The first of these names whose AVPs aren't masked.
-fn first_left<'a>(choice: &Choice, list: &[Named], names: &'a str) -> Option<&'a str> {
-    for (named, name) in list.iter().zip(names.split(',')) {
-        let masked = match *named {
-            Named::Unknown => choice.masks_unknown(),
-            Named::Known(entry) => choice.masks(entry),
-        };
-        if !masked {
-            return Some(name);
+impl<'a> NameList<'a> {
+    ghost use Rattle.std.specs.Prelude.{◌≡◌, IfOk};
+    ghost use Rattle.std.specs.HashSet.{contains_by};
+    ghost use Rattle.std.specs.Str.{bytes_eq};
+    ghost use Rattle.dia_mask_text.specs.Naming.{IsNameList};
+
+    fn of(alloc: Global, list: &'a str) -> Result<NameList<'a>, AllocError>
+        ensures { IfOk result (IsNameList list.now) }
+    {
+        let names = names_of(alloc, list)?;
+        let set = set_of(alloc, &names)?;
+        Ok(NameList { names, set })
+    }
+
+    fn has(&self, name: &str) -> bool
+        ensures { result ≡ contains_by (λ k. bytes_eq name.now k.now) self.now.set }
+    {
+        self.set.contains(&name)
+    }
+}
+
+/// The names of a list, with commas between them; an empty text has none.
+fn names_of<'a>(alloc: Global, list: &'a str) -> Result<Vec<&'a str>, AllocError>
+    ensures { IfOk result (λ names. texts names.items ≡ names_of list.now) }
+{
+    if list.is_empty() {
+        return Ok(Vec::new(alloc));
+    }
+    list.split(',').collect(alloc)
+}
+
+fn set_of<'a>(alloc: Global, names: &[&'a str]) -> Result<HashSet<&'a str>, AllocError>
+    ensures { IfOk result (IsFromIterResult (λ x y. bytes_eq x.now y.now) names.now) }
+{
+    names.iter().copied().collect(alloc)
+}
+
+/// Whether other data can replace those of each AVP of a dictionary, by its name.
+fn known_names<B: Book>(alloc: Global, book: &B) -> Result<HashMap<&str, bool>, AllocError>
+    ensures { IfOk result (AreKnown (B.meaning book.now)) }
+{
+    let mut known = HashMap::new(alloc);
+    for index in 0..book.entries() {
+        let entry = book.entry_at(index);
+        known.insert(book.entry_name(entry), can_be_masked(book.format(entry)))?;
+    }
+    Ok(known)
+}
+
+/// The first of these names that no AVP has, or of which other data can't replace the AVP's.
+fn first_unfit<'a>(known: &HashMap<&str, bool>, names: &[&'a str]) -> Option<BadName<'a>>
+    ensures { (d : Dictionary) → AreKnown d known.now
+        → fault_of result ≡ slice_get (with_faults (fault_in d) (texts names.now)) 0 }
+{
+    for name in names {
+        if let Some(why) = fault_in(known, name) {
+            return Some(BadName { name, why });
         }
     }
     None
 }
 
-impl Names {
-    fn of<B: Book>(alloc: Global, book: &B) -> Result<Names, AllocError> {
-        let mut entries = HashMap::new(alloc);
-        for index in 0..book.entries() {
-            let entry = book.entry_at(index);
-            let name = String::from_str(alloc, book.entry_name(entry))?;
-            entries.insert(name, entry)?;
-        }
-        Ok(Names { entries })
-    }
-
-    /// What the names of a list are for, in their order.
-    fn list<'a, B: Book>(
-        &self,
-        alloc: Global,
-        book: &B,
-        list: &'a str,
-    ) -> Result<Vec<Named>, NoChoice<'a>> {
-        let mut found = Vec::new(alloc);
-        if list.is_empty() {
-            return Ok(found);
-        }
-        for name in list.split(',') {
-            match self.find(book, name) {
-                Ok(named) => push(&mut found, named)?,
-                Err(why) => return Err(NoChoice::Bad(BadName { name, why })),
-            }
-        }
-        Ok(found)
-    }
-
-    fn find<B: Book>(&self, book: &B, name: &str) -> Result<Named, Why> {
-        if name == UNKNOWN {
-            return Ok(Named::Unknown);
-        }
-        match self.entries.get(name) {
-            Some(entry) if may_be_named(book, *entry) => Ok(Named::Known(*entry)),
-            Some(_) => Err(Why::Fixed),
-            None => Err(Why::Missing),
-        }
+fn fault_in(known: &HashMap<&str, bool>, name: &str) -> Option<Why>
+    ensures { (d : Dictionary) → AreKnown d known.now → result ≡ fault_in d name.now }
+{
+    if name == UNKNOWN {
+        None
+    } else {
+        why_not(known.get(&name).copied())
     }
 }
 
-fn push(list: &mut Vec<Named>, named: Named) -> Result<(), AllocError> {
-    list.push(named)?;
-    Ok(())
+fn why_not(replaceable: Option<bool>) -> Option<Why>
+    ensures { result ≡ why_not replaceable }
+{
+    match replaceable {
+        None => Some(Why::Missing),
+        Some(false) => Some(Why::Fixed),
+        Some(true) => None,
+    }
 }
 
-fn may_be_named<B: Book>(book: &B, entry: Entry) -> bool {
-    entry.index() < book.entries() && can_be_masked(book.format(entry))
+/// The first of these names that are to be masked which is among those that are to stay.
+fn first_twice<'a>(keep: &NameList<'_>, names: &[&'a str]) -> Option<BadName<'a>>
+    ensures { (list : List ℕ) → IsNameList list keep.now
+        → fault_of result ≡ slice_get (with_faults (fault_by list) (texts names.now)) 0 }
+{
+    for name in names {
+        if keep.has(name) {
+            let why = Why::Twice;
+            return Some(BadName { name, why });
+        }
+    }
+    None
 }

@@ -19,6 +19,8 @@ use std::process::Abort;
 const DICTIONARY: &str = "%avp S 9005 UTF8String any
 %avp N 9002 Unsigned32 any
 %avp E 9003 Enumerated any ( 1 2 )
+%avp P 269 UTF8String any
+%avp I 96 Unsigned64 any
 <G> ::= < AVP Header: 9100 > * [ AVP ]
 <T> ::= < Diameter Header: 302, REQ > * [ AVP ]
 ";
@@ -112,6 +114,35 @@ left as they are: AVP 1
 --
 1 line: 1 value of 1 AVP replaced
 left as they are: S 1
+== by code; status 0
+01000030$H0000010d0000000b6162630000000060000000100000000000000007
+--
+01000030$H0000010d0000000b6162630000000060000000100000000000000000
+--
+1 line: 1 value of 1 AVP replaced
+left as they are: P 1
+== one that would stay; mask P; status 0
+01000020$H0000010d0000000b61626300
+--
+01000020$H0000010d0000000b61616100
+--
+1 line: 1 value of 1 AVP replaced
+== unknown AVPs alone; only AVP; status 0
+01000034$H0000238c000000140000232d0000000971000000000000070000000aaabb1122
+--
+01000034$H0000238c000000140000232d0000000971000000000000070000000a00000000
+--
+1 line: 1 value of 1 AVP replaced
+left as they are: S 1
+== two names; keep S,AVP; mask N; status 0
+01000034$H0000238c000000140000232d0000000971000000000000070000000aaabb1122
+0100002c$H0000232d0000000b616231ff0000232a0000000c00000009
+--
+01000034$H0000238c000000140000232d0000000971000000000000070000000aaabb1122
+0100002c$H0000232d0000000b616231ff0000232a0000000c00000000
+--
+2 lines: 1 value of 1 AVP replaced
+left as they are: AVP 1, S 2
 == json; status 0
 0100002c$H0000232d0000000b616231000000232a0000000c00000000
 0100002c$H0000232d0000000b616232000000232a0000000c00000000
@@ -137,6 +168,26 @@ mask: G can't be masked
 == an AVP in two lists; keep S; mask N,S; status 2
 --
 mask: S in two lists
+--
+== unknown AVPs in two lists; keep S,AVP; mask AVP; status 2
+--
+mask: AVP in two lists
+--
+== the first of several; mask N,G,X; status 2
+--
+mask: G can't be masked
+--
+== those that stay come first; keep X; mask G; status 2
+--
+mask: no AVP X
+--
+== in two lists comes last; keep S; mask S,X; status 2
+--
+mask: no AVP X
+--
+== an empty name; only S,; status 2
+--
+mask: no AVP 
 --
 ";
 

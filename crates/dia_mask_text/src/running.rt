@@ -209,7 +209,7 @@ fn refuse_name<S: Sink>(
     sink: &mut S,
 ) -> Result<Reported, LinesFault>
     requires sound { ¬ IsTrue (S.has_failed sink.old) }
-    requires named { IsRefusedName (lists options.now) dictionary.now bad }
+    requires named { IsRefusedName (lists options.now) dictionary.now bad.name.now bad.why }
     ensures put { IfOk result (λ reported. IsRefusalPut (lists options.now) dictionary.now
         (S.written sink.old) (S.written sink.new) reported.exit) }
     ensures exit { IfOk result (λ reported. reported.exit ≡ Exit.Bad) }

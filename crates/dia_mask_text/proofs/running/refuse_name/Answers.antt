@@ -10,8 +10,8 @@ returns-in_err-text-clause-front g c = λ _. inr (Appends-nil (g.S.Sink.written 
 
 pub returns-in_err-put_all-clause-front : goal.returns-in_err-put_all-clause-front
 returns-in_err-put_all-clause-front g c = λ _.
-    inl (string_bytes c.in_ok-text.text, Bad, bad_name c.args.bad c.requires.named c.in_ok-text.ensures refl, rw c.as_bytes.ensures.value at c.put_all.ensures.front)
+    inl (string_bytes c.in_ok-text.text, Bad, bad_name c.args.bad.name.now c.args.bad.why c.requires.named c.in_ok-text.ensures refl, rw c.as_bytes.ensures.value at c.put_all.ensures.front)
 
 pub returns-clause-put : goal.returns-clause-put
 returns-clause-put g c =
-    (string_bytes c.in_ok-text.text, bad_name c.args.bad c.requires.named c.in_ok-text.ensures refl, rw c.as_bytes.ensures.value at c.in_ok-put_all.ensures.ok)
+    (string_bytes c.in_ok-text.text, bad_name c.args.bad.name.now c.args.bad.why c.requires.named c.in_ok-text.ensures refl, rw c.as_bytes.ensures.value at c.in_ok-put_all.ensures.ok)
