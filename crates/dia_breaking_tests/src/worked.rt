@@ -113,6 +113,21 @@ any | $X $T 1398100*1398100 { X } | $T [ AVP ] => nothing breaks\n
 let G = <G> ::= < AVP Header: 9100 > [ H ] <H> ::= < AVP Header: 9101 >
 any | $X $G * [ X ] $T [ G ] | $X $G *2 [ X ] $T [ G ] => T/G/H: too-many X: 0..* sent, 0..2 accepted\n  01000048 $H 0000238c00000034 0000238d0000002c $X0 $X0 $X0\n
 
+# Two places of an AVP or a group where the message is shortest: the one to which rules alone lead is before one by a wildcard,
+# of its level or of a group around it; of two by wildcards the first. A shorter one by a wildcard is before both.
+let M = %avp X 9002 Unsigned32 must
+let GW = <G> ::= < AVP Header: 9100 > * [ AVP ]
+let GX = <G> ::= < AVP Header: 9100 > [ X ]
+let HW = <H> ::= < AVP Header: 9101 > * [ AVP ]
+let HX = <H> ::= < AVP Header: 9101 > [ X ]
+let HK = <H> ::= < AVP Header: 9101 > [ K ]
+let BIT = m-bit X: M clear sent, M set accepted
+any | $X $GW $HX $T [ G ] [ H ] | $M $GW $HX $T [ G ] [ H ] => T/H: $BIT\n  01000028 $H 0000238d00000014 $X0\n
+any | $X $GW $HW $T [ G ] [ H ] | $M $GW $HW $T [ G ] [ H ] => T/G: $BIT\n  01000028 $H 0000238c00000014 $X0\n
+known | $X $GX $HX $T *0 [ X ] [ H ] * [ AVP ] | $M $GX $HX $T *0 [ X ] [ H ] * [ AVP ] => T/H: $BIT\n  01000028 $H 0000238d00000014 $X0\n
+known | $X $GW $HK <K> ::= < AVP Header: 9102 > [ X ] $T [ G ] [ H ] | $X $GW $HK <K> ::= < AVP Header: 9102 > { X } $T [ G ] [ H ] => T/H/K: missing X: 0..1 sent, 1 accepted\n  01000024 $H 0000238d00000010 0000238e00000008\n
+known | $X $GX $T [ G ] * [ AVP ] | $M $GX $T [ G ] * [ AVP ] => T: $BIT\n  01000020 $H $X0\n
+
 # A group read as any bytes and as a number, and any bytes read as a group.
 let G1 = <G> ::= < AVP Header: 9100 > [ X ] $X
 any | $G1 $T [ G ] | %avp G 9100 OctetString any $T [ G ] => nothing breaks\n
