@@ -315,6 +315,33 @@ class Peers(unittest.TestCase):
         relay.receive(cea)
         self.assertEqual((relay.state, relay.common), (State.OPEN, [Application(4)]))
 
+    def test_life(self):
+        first, second = (Peer(role, "a.example.com", "example.com", [Application(4)], life=True) for role in Role)
+        second.start()
+        (cer,) = first.start()
+        (cea,) = second.receive(cer)
+        first.receive(cea)
+        first.tick()
+        self.assertFalse(first.suspect)
+        self.assertEqual((first.tick(), first.suspect), ([], True))
+        first.heard()
+        self.assertFalse(first.suspect)
+        self.assertEqual((first.tick(), first.tick()), ([], [Why.WATCHDOG]))
+
+    def test_values(self):
+        first = Peer(Role.INITIATOR, "a.example.com", "example.com", [Application(4)], product="one", values=True)
+        second = Peer(Role.RESPONDER, "b.example.com", "example.org", [Application(4)], product="two", values=True)
+        second.start()
+        self.assertEqual((second.host, second.result, second.cause), (None, None, None))
+        (cer,) = first.start()
+        (cea,) = second.receive(cer)
+        first.receive(cea)
+        self.assertEqual((second.host, second.realm, second.product), ("a.example.com", "example.com", "one"))
+        self.assertEqual((first.host, first.realm, first.product, first.result), ("b.example.com", "example.org", "two", 2001))
+        (dpr,) = first.stop(Cause.BUSY)
+        second.receive(dpr)
+        self.assertEqual(second.cause, Cause.BUSY)
+
     def test_refused(self):
         for title, words in (("host", ("", "example.com", [Application(4)])), ("applications", ("a", "b", []))):
             with self.assertRaisesRegex(ValueError, title):
