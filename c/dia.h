@@ -590,9 +590,10 @@ dia_status dia_peer_open(uint32_t role, const uint8_t *host, size_t host_len, co
 
 /* The modes of an end, which can be joined by `|`. */
 enum {
-    DIA_MANNER_RELAYS = 1, /* relay mode: 4294967295 means all applications (RFC 6733 section 2.4) */
-    DIA_MANNER_LIFE = 4,   /* a DWR without answer makes the connection suspect before it closes it (RFC 3539 section 3.4.1) */
-    DIA_MANNER_VALUES = 8  /* what the other end says of itself is kept (dia_peer_value) */
+    DIA_MANNER_RELAYS = 1,  /* relay mode: 4294967295 means all applications (RFC 6733 section 2.4) */
+    DIA_MANNER_ANSWERS = 2, /* a request that is no valid message is answered before the close, with its fault (dia_answer) */
+    DIA_MANNER_LIFE = 4,    /* a DWR without answer makes the connection suspect before it closes it (RFC 3539 section 3.4.1) */
+    DIA_MANNER_VALUES = 8   /* what the other end says of itself is kept (dia_peer_value) */
 };
 
 /* The same with modes, `manner`: 0 or DIA_MANNER_... DIA_BAD_ARGUMENT: `role` or `manner` is none of its values. */
@@ -634,8 +635,8 @@ enum {
 };
 
 /* Takes the next thing that is to be done, in order. DIA_SEND: *count bytes are written, and *why is 0. DIA_CLOSE: *why is
- * DIA_WHY_.., and *count is 0. DIA_NONE: nothing is left. DIA_NO_ROOM: the message has *count bytes, at most 35,408, and is still
- * the next.
+ * DIA_WHY_.., and *count is 0. DIA_NONE: nothing is left. DIA_NO_ROOM: the message has *count bytes, and is still the next; only
+ * an answer of DIA_MANNER_ANSWERS has more than 35,408, for it repeats AVPs of the request.
  * Takes no memory. */
 dia_status dia_peer_output(dia_peer *peer, uint32_t *output, uint8_t *out, size_t out_len, size_t *count, uint32_t *why);
 

@@ -179,6 +179,25 @@ static dia_status open_modes(dia_peer *peer, uint32_t manner) {
                             &address, 1, &app, 1, &numbers, peer, &fault);
 }
 
+/* With DIA_MANNER_ANSWERS a request that is no valid message is answered before the close, and without it not. */
+static void an_invalid_request_is_answered(void) {
+    /* a DWR without Origin-Host, and its answer: Result-Code 5005, Error-Message, and the least AVP in Failed-AVP */
+    static const char spoiled[] = "\x01\x00\x00\x20\x80\x00\x01\x18" IDS("\x01", "\x02") OR;
+    static const char answer[] = "\x01\x00\x00\x78\x00\x00\x01\x18" IDS("\x01", "\x02")
+        "\x00\x00\x01\x0c\x40\x00\x00\x0c\x00\x00\x13\x8d" OH2 OR2
+        "\x00\x00\x01\x19\x00\x00\x00\x2c" "fault 5005 at 32 missing Origin-Host"
+        "\x00\x00\x01\x17\x40\x00\x00\x14" "\x00\x00\x01\x08\x40\x00\x00\x09" "a\x00\x00\x00";
+    for (uint32_t manner = 0; manner <= DIA_MANNER_ANSWERS; manner += DIA_MANNER_ANSWERS) {
+        dia_peer b = DIA_PEER_INIT;
+        EXPECT(open_modes(&b, manner) == DIA_OK && dia_peer_event(&b, DIA_START, out, 0, 0) == DIA_OK);
+        EXPECT(tell(&b, cer, LENGTH(cer)) == DIA_OK && sends(&b, one_cea, LENGTH(one_cea)));
+        EXPECT(tell(&b, spoiled, LENGTH(spoiled)) == DIA_OK);
+        EXPECT(manner == 0 || sends(&b, answer, LENGTH(answer)));
+        EXPECT(closes(&b, DIA_WHY_INVALID) && rests(&b, DIA_STATE_CLOSED));
+        dia_peer_close(&b);
+    }
+}
+
 /* With DIA_MANNER_LIFE a watchdog without an answer first makes the connection suspect. */
 static void a_silent_connection_is_suspect(void) {
     dia_peer b = DIA_PEER_INIT;
@@ -315,6 +334,7 @@ int main(void) {
     two_ends_open_watch_and_close();
     a_relay_has_what_the_other_names();
     a_watchdog_without_an_answer_closes();
+    an_invalid_request_is_answered();
     a_silent_connection_is_suspect();
     values_of_the_other_are_kept();
     timers_and_identifiers();

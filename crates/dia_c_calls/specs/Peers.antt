@@ -25,12 +25,12 @@ IsRole n = (n ≡ 0) ⊎ (n ≡ 1)
 abbrev pub role_of : ℕ → Role
 role_of n = if nat_eq n 1 then Responder else Initiator
 
--- each manner has a bit: 1 that of relays, 4 life, 8 values
+-- each manner has a bit
 abbrev pub IsManner : ℕ → Type 0
-IsManner n = (n < 16) × (bit_and n 2 ≡ 0)
+IsManner n = n < 16
 
 abbrev pub manner_of : ℕ → Manner
-manner_of n = record { relays = not (bit_and n 1 == 0); life = not (bit_and n 4 == 0); values = not (bit_and n 8 == 0) }
+manner_of n = record { relays = not (bit_and n 1 == 0); answers = not (bit_and n 2 == 0); life = not (bit_and n 4 == 0); values = not (bit_and n 8 == 0) }
 
 -- an IPv4 address has the first four of the bytes
 abbrev pub ip_of : PeerAddress → Ip

@@ -24,11 +24,12 @@ pub fn manner_of(manner: u32) -> Option<Manner>
     ensures some { IfSome result (λ found. (found ≡ manner_of manner) × IsManner manner) }
     ensures none { result ≡ None → ¬ IsManner manner }
 {
-    if manner >= 16 || manner & 2 != 0 {
+    if manner >= 16 {
         return None;
     }
     Some(Manner {
         relays: manner & 1 != 0,
+        answers: manner & 2 != 0,
         life: manner & 4 != 0,
         values: manner & 8 != 0,
     })

@@ -16,7 +16,7 @@ from ._lib import App, Ip, Numbers, Owner, lib, octets, require, u32
 RELAY = 0xFFFFFFFF
 """The Application-ID of relays (RFC 6733 section 2.4)."""
 MOST_ROOM = 35_408
-"""The most bytes of a message of a peer."""
+"""The most bytes of a message of a peer, but an answer to an invalid request."""
 
 
 class Role(IntEnum):
@@ -65,7 +65,8 @@ Output = Union[bytes, Why]
 class Peer(Owner):
     """An end of a connection. Each event returns what is to be done, in order.
 
-    With `relays` the application RELAY stands for all. With `life` a watchdog without answer makes the connection `suspect`
+    With `relays` the application RELAY stands for all. With `answers` a request that is no valid message is answered with its
+    fault before the connection is closed. With `life` a watchdog without answer makes the connection `suspect`
     before it closes it (RFC 3539 section 3.4.1). With `values` it keeps what the other end says of itself: `host` and the
     properties after it. The Hop-by-Hop and End-to-End Identifiers begin at random (RFC 6733
     section 3), or at those of `identifiers`. Raises ValueError where a field is refused, and MemoryError."""
@@ -84,6 +85,7 @@ class Peer(Owner):
         vendor: int = 0,
         state_id: Optional[int] = None,
         relays: bool = False,
+        answers: bool = False,
         life: bool = False,
         values: bool = False,
         identifiers: Optional[tuple[int, int]] = None,
@@ -99,7 +101,7 @@ class Peer(Owner):
         names = [part for word in words for part in (word, len(word))]
         lists = ((Ip * max(1, len(ips)))(*ips), len(ips), (App * max(1, len(apps)))(*apps), len(apps))
         fault = c.c_uint32()
-        manner = bool(relays) | bool(life) << 2 | bool(values) << 3
+        manner = bool(relays) | bool(answers) << 1 | bool(life) << 2 | bool(values) << 3
         status = lib.dia_peer_open_as(Role(role), manner, *names, *lists, numbers, self._handle, fault)
         if status == _lib.REFUSED:
             fields = ("", "host", "realm", "product", "addresses", "applications")
@@ -228,10 +230,12 @@ class Peer(Owner):
     def _take_outputs(self) -> None:
         output, count, why = c.c_uint32(), c.c_size_t(), c.c_uint32()
         room = c.create_string_buffer(MOST_ROOM)
-        while (status := lib.dia_peer_output(self._handle, output, room, MOST_ROOM, count, why)) == _lib.OK:
-            self._waiting.append(Why(why.value) if output.value else room.raw[: count.value])
-        if status != _lib.NONE:
+        while (status := lib.dia_peer_output(self._handle, output, room, len(room), count, why)) != _lib.NONE:
+            if status == _lib.NO_ROOM:
+                room = c.create_string_buffer(count.value)
+                continue
             require(status)
+            self._waiting.append(Why(why.value) if output.value else room.raw[: count.value])
 
 
 def _ip(address: str) -> Ip:
