@@ -588,12 +588,15 @@ dia_status dia_peer_open(uint32_t role, const uint8_t *host, size_t host_len, co
                          const uint8_t *product, size_t product_len, const dia_ip *addresses, size_t address_count,
                          const dia_app *apps, size_t app_count, const dia_numbers *numbers, dia_peer *peer, uint32_t *fault);
 
-/* The mode of an end. */
+/* The modes of an end, which can be joined by `|`. */
 enum {
-    DIA_MANNER_RELAYS = 1 /* relay mode: 4294967295 means all applications (RFC 6733 section 2.4) */
+    DIA_MANNER_RELAYS = 1,  /* relay mode: 4294967295 means all applications (RFC 6733 section 2.4) */
+    DIA_MANNER_ANSWERS = 2, /* a request that is no valid message is answered before the close, with its fault (dia_answer) */
+    DIA_MANNER_LIFE = 4,    /* a DWR without answer makes the connection suspect before it closes it (RFC 3539 section 3.4.1) */
+    DIA_MANNER_VALUES = 8   /* what the other end says of itself is kept (dia_peer_value) */
 };
 
-/* The same with a mode, `manner`: 0 or DIA_MANNER_RELAYS. DIA_BAD_ARGUMENT: `role` or `manner` is none of its values. */
+/* The same with modes, `manner`: 0 or DIA_MANNER_... DIA_BAD_ARGUMENT: `role` or `manner` is none of its values. */
 dia_status dia_peer_open_as(uint32_t role, uint32_t manner, const uint8_t *host, size_t host_len, const uint8_t *realm,
                             size_t realm_len, const uint8_t *product, size_t product_len, const dia_ip *addresses,
                             size_t address_count, const dia_app *apps, size_t app_count, const dia_numbers *numbers,
@@ -632,8 +635,8 @@ enum {
 };
 
 /* Takes the next thing that is to be done, in order. DIA_SEND: *count bytes are written, and *why is 0. DIA_CLOSE: *why is
- * DIA_WHY_.., and *count is 0. DIA_NONE: nothing is left. DIA_NO_ROOM: the message has *count bytes, at most 35,408, and is still
- * the next.
+ * DIA_WHY_.., and *count is 0. DIA_NONE: nothing is left. DIA_NO_ROOM: the message has *count bytes, and is still the next; only
+ * an answer of DIA_MANNER_ANSWERS has more than 35,408, for it repeats AVPs of the request.
  * Takes no memory. */
 dia_status dia_peer_output(dia_peer *peer, uint32_t *output, uint8_t *out, size_t out_len, size_t *count, uint32_t *why);
 
@@ -677,6 +680,27 @@ dia_status dia_peer_timer(uint32_t before, uint32_t event, uint32_t after, uint3
 /* How long a connection may be quiet before a watchdog, in milliseconds: `tw`, raised to 6,000 if lower, plus or minus up to
  * 2,000 at random (RFC 3539 section 3.4.1). `drawn` is a random number. */
 uint64_t dia_peer_quiet_ms(uint32_t tw, uint32_t drawn);
+
+/* Reports a message of an application, which is not delivered to the end: a sign of life. Takes no memory. */
+dia_status dia_peer_heard(dia_peer *peer);
+
+/* Delivers whether the connection is suspect: *suspect is 1 or 0. It is 1 only with DIA_MANNER_LIFE, in DIA_STATE_OPEN, from a
+ * DIA_TICK at which a DWR is unanswered until bytes or dia_peer_heard: then send new requests elsewhere. Takes no memory. */
+dia_status dia_peer_suspect(dia_peer *peer, uint32_t *suspect);
+
+/* What the other end says of itself, with DIA_MANNER_VALUES. */
+enum {
+    DIA_VALUE_HOST = 0,    /* Origin-Host, of its CER, or of its answer to the CER of this end */
+    DIA_VALUE_REALM = 1,   /* Origin-Realm, of the same message */
+    DIA_VALUE_PRODUCT = 2, /* Product-Name, of the same message; an error message has none */
+    DIA_VALUE_RESULT = 3,  /* Result-Code of its answer: 4 bytes, in network byte order */
+    DIA_VALUE_CAUSE = 4    /* Disconnect-Cause of its DPR: 4 bytes, in network byte order */
+};
+
+/* Copies out such a value, the data of the first AVP of its code: *count bytes are written. DIA_NONE: the other end has not said
+ * it, or without DIA_MANNER_VALUES. DIA_NO_ROOM: the value has *count bytes. DIA_BAD_ARGUMENT: there is no such value. Takes no
+ * memory. */
+dia_status dia_peer_value(dia_peer *peer, uint32_t which, uint8_t *out, size_t out_len, size_t *count);
 
 /* Closes the handle, and sends nothing to the other end. Takes no memory. */
 void dia_peer_close(dia_peer *peer);

@@ -27,6 +27,7 @@
 static const char cer[] = "\x01\x00\x00\x6c\x80\x00\x01\x01" IDS("\x01", "\x01") OH OR IP VENDOR PRODUCT AUTH1 AUTH4;
 static const char cea[] = "\x01\x00\x00\x78\x00\x00\x01\x01" IDS("\x01", "\x01") SUCCESS OH2 OR2 IP2 VENDOR PRODUCT2 AUTH4 ACCT3;
 static const char relay_cea[] = "\x01\x00\x00\x6c\x00\x00\x01\x01" IDS("\x01", "\x01") SUCCESS OH2 OR2 IP2 VENDOR PRODUCT2 RELAY;
+static const char one_cea[] = "\x01\x00\x00\x6c\x00\x00\x01\x01" IDS("\x01", "\x01") SUCCESS OH2 OR2 IP2 VENDOR PRODUCT2 AUTH4;
 static const char dwr[] = "\x01\x00\x00\x2c\x80\x00\x01\x18" IDS("\x01", "\x02") OH OR;
 static const char dwa[] = "\x01\x00\x00\x38\x00\x00\x01\x18" IDS("\x01", "\x02") SUCCESS OH2 OR2;
 static const char own_dwr[] = "\x01\x00\x00\x2c\x80\x00\x01\x18" IDS("\x01", "\x01") OH2 OR2;
@@ -162,6 +163,78 @@ static void a_watchdog_without_an_answer_closes(void) {
     dia_peer_close(&b);
 }
 
+/* Whether the other end said this value. */
+static int says(dia_peer *peer, uint32_t which, const char *value, size_t len) {
+    size_t count = 99;
+    return dia_peer_value(peer, which, out, sizeof out, &count) == DIA_OK && count == len && memcmp(out, value, len) == 0;
+}
+
+/* A responder of modes, with Auth 4. */
+static dia_status open_modes(dia_peer *peer, uint32_t manner) {
+    const dia_ip address = {0, {127, 0, 0, 2}};
+    const dia_app app = {0, 4, 0, 0};
+    const dia_numbers numbers = {0, 0, 0, 1, 1};
+    uint32_t fault;
+    return dia_peer_open_as(DIA_RESPONDER, manner, (const uint8_t *)"c.d", 3, (const uint8_t *)"d", 1, (const uint8_t *)"q", 1,
+                            &address, 1, &app, 1, &numbers, peer, &fault);
+}
+
+/* With DIA_MANNER_ANSWERS a request that is no valid message is answered before the close, and without it not. */
+static void an_invalid_request_is_answered(void) {
+    /* a DWR without Origin-Host, and its answer: Result-Code 5005, Error-Message, and the least AVP in Failed-AVP */
+    static const char spoiled[] = "\x01\x00\x00\x20\x80\x00\x01\x18" IDS("\x01", "\x02") OR;
+    static const char answer[] = "\x01\x00\x00\x78\x00\x00\x01\x18" IDS("\x01", "\x02")
+        "\x00\x00\x01\x0c\x40\x00\x00\x0c\x00\x00\x13\x8d" OH2 OR2
+        "\x00\x00\x01\x19\x00\x00\x00\x2c" "fault 5005 at 32 missing Origin-Host"
+        "\x00\x00\x01\x17\x40\x00\x00\x14" "\x00\x00\x01\x08\x40\x00\x00\x09" "a\x00\x00\x00";
+    for (uint32_t manner = 0; manner <= DIA_MANNER_ANSWERS; manner += DIA_MANNER_ANSWERS) {
+        dia_peer b = DIA_PEER_INIT;
+        EXPECT(open_modes(&b, manner) == DIA_OK && dia_peer_event(&b, DIA_START, out, 0, 0) == DIA_OK);
+        EXPECT(tell(&b, cer, LENGTH(cer)) == DIA_OK && sends(&b, one_cea, LENGTH(one_cea)));
+        EXPECT(tell(&b, spoiled, LENGTH(spoiled)) == DIA_OK);
+        EXPECT(manner == 0 || sends(&b, answer, LENGTH(answer)));
+        EXPECT(closes(&b, DIA_WHY_INVALID) && rests(&b, DIA_STATE_CLOSED));
+        dia_peer_close(&b);
+    }
+}
+
+/* With DIA_MANNER_LIFE a watchdog without an answer first makes the connection suspect. */
+static void a_silent_connection_is_suspect(void) {
+    dia_peer b = DIA_PEER_INIT;
+    uint32_t suspect = 99;
+    EXPECT(dia_peer_heard(&b) == DIA_IS_CLOSED && dia_peer_suspect(&b, &suspect) == DIA_IS_CLOSED && suspect == 99);
+    EXPECT(open_modes(&b, 16) == DIA_BAD_ARGUMENT && open_modes(&b, DIA_MANNER_LIFE) == DIA_OK);
+    EXPECT(dia_peer_event(&b, DIA_START, out, 0, 0) == DIA_OK && tell(&b, cer, LENGTH(cer)) == DIA_OK);
+    EXPECT(sends(&b, one_cea, LENGTH(one_cea)));
+    EXPECT(dia_peer_event(&b, DIA_TICK, out, 0, 0) == DIA_OK && sends(&b, own_dwr, LENGTH(own_dwr)));
+    EXPECT(dia_peer_suspect(&b, &suspect) == DIA_OK && suspect == 0);
+    EXPECT(dia_peer_event(&b, DIA_TICK, out, 0, 0) == DIA_OK && rests(&b, DIA_STATE_OPEN));
+    EXPECT(dia_peer_suspect(&b, &suspect) == DIA_OK && suspect == 1);
+    EXPECT(dia_peer_heard(&b) == DIA_OK && dia_peer_suspect(&b, &suspect) == DIA_OK && suspect == 0);
+    EXPECT(dia_peer_event(&b, DIA_TICK, out, 0, 0) == DIA_OK && rests(&b, DIA_STATE_OPEN));
+    EXPECT(dia_peer_event(&b, DIA_TICK, out, 0, 0) == DIA_OK);
+    EXPECT(closes(&b, DIA_WHY_WATCHDOG) && rests(&b, DIA_STATE_CLOSED));
+    dia_peer_close(&b);
+}
+
+/* With DIA_MANNER_VALUES an end keeps what the other says of itself. */
+static void values_of_the_other_are_kept(void) {
+    dia_peer b = DIA_PEER_INIT;
+    size_t count = 99;
+    EXPECT(dia_peer_value(&b, DIA_VALUE_HOST, out, sizeof out, &count) == DIA_IS_CLOSED && count == 99);
+    EXPECT(open_modes(&b, DIA_MANNER_VALUES | DIA_MANNER_LIFE) == DIA_OK);
+    EXPECT(dia_peer_event(&b, DIA_START, out, 0, 0) == DIA_OK);
+    EXPECT(dia_peer_value(&b, DIA_VALUE_HOST, out, sizeof out, &count) == DIA_NONE && count == 99);
+    EXPECT(dia_peer_value(&b, 5, out, sizeof out, &count) == DIA_BAD_ARGUMENT && count == 99);
+    EXPECT(tell(&b, cer, LENGTH(cer)) == DIA_OK && sends(&b, one_cea, LENGTH(one_cea)));
+    EXPECT(says(&b, DIA_VALUE_HOST, "a.b", 3) && says(&b, DIA_VALUE_REALM, "b", 1) && says(&b, DIA_VALUE_PRODUCT, "p", 1));
+    EXPECT(dia_peer_value(&b, DIA_VALUE_HOST, out, 2, &count) == DIA_NO_ROOM && count == 3);
+    EXPECT(dia_peer_value(&b, DIA_VALUE_RESULT, out, sizeof out, &count) == DIA_NONE);
+    EXPECT(dia_peer_value(&b, DIA_VALUE_CAUSE, out, sizeof out, &count) == DIA_NONE);
+    EXPECT(tell(&b, dpr, LENGTH(dpr)) == DIA_OK && says(&b, DIA_VALUE_CAUSE, "\x00\x00\x00\x01", 4));
+    dia_peer_close(&b);
+}
+
 /* Identifiers that the caller takes are never those of the end, and the timer goes by the states around an event. */
 static void timers_and_identifiers(void) {
     dia_peer a = DIA_PEER_INIT;
@@ -261,6 +334,9 @@ int main(void) {
     two_ends_open_watch_and_close();
     a_relay_has_what_the_other_names();
     a_watchdog_without_an_answer_closes();
+    an_invalid_request_is_answered();
+    a_silent_connection_is_suspect();
+    values_of_the_other_are_kept();
     timers_and_identifiers();
     outputs_are_taken_in_order();
     configurations_are_refused();

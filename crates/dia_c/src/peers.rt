@@ -44,7 +44,7 @@ pub extern "C" fn dia_peer_open(
     )
 }
 
-/// Opens one end of a connection that is of a manner: 1 is that of relays, 0 none.
+/// Opens one end of a connection that is of manners, each a bit: 1 relays, 2 answers, 4 life, 8 values; 0 is none.
 #[unsafe(no_mangle)]
 pub extern "C" fn dia_peer_open_as(
     alloc: Global,

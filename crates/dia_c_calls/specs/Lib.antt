@@ -13,6 +13,7 @@ pub mod Names
 pub mod Openings
 pub mod PeerSteps
 pub mod PeerTimers
+pub mod PeerValues
 pub mod Peers
 pub mod PlainFaults
 pub mod Replies

@@ -10,7 +10,7 @@ use Rattle.dia_peer.specs.declared.event.Event.{Event}
 use Rattle.dia_peer.specs.declared.event.Event.TheVariants as event
 use Rattle.dia_peer.specs.declared.event.Output.{Output}
 use Rattle.dia_peer.specs.Core.{PlainCore}
-use Rattle.dia_peer.specs.Machine.{IsStep, IsSound}
+use Rattle.dia_peer.specs.Machine.{IsStep, AreSound}
 use Rattle.dia_peer.specs.Outputs.{PlainOutput, SentBytes, ClosedFor, plain_output}
 use Rattle.dia_c_calls.specs.declared.peer.Peer.{Peer}
 use Rattle.dia_c_calls.specs.declared.peer.Given.{Given}
@@ -59,9 +59,9 @@ IsEventOf n bytes cause event.Lost = n ≡ 4
 abbrev pub IsEventNumber : ℕ → ℕ → Type 0
 IsEventNumber n cause = (n < 5) × (n ≡ 3 → cause < 3)
 
--- the core did one step, and its outputs, whose messages are valid, are to be taken
+-- the core did one step, and its outputs, whose messages are valid as those of `Core::step` are, are to be taken
 abbrev pub HasStepped : PlainCore → Event → PlainEnd → Type 0
-HasStepped core e new = (outputs : List Output) × IsStep core e outputs new.core × All IsSound outputs × (new.left ≡ map plain_output outputs)
+HasStepped core e new = (outputs : List Output) × IsStep core e outputs new.core × AreSound core.manner outputs × (new.left ≡ map plain_output outputs)
 
 -- nothing was left to be taken, and the event of these numbers happened
 abbrev pub HasHappened : ℕ → List ℕ → ℕ → PlainEnd → PlainEnd → Type 0

@@ -1,5 +1,5 @@
 -- One end of a connection, as programs in C open it.
-use Rattle.std.specs.Prelude.{◌≡◌, ◌≢◌, false, ℕ, ◌⊎◌, List, [], map, take, Option, Some, None, nat_eq, if◌then◌else◌}
+use Rattle.std.specs.Prelude.{◌≡◌, ◌≢◌, ◌==◌, ℕ, ◌<◌, ◌⊎◌, bit_and, not, List, [], map, take, Option, Some, None, nat_eq, if◌then◌else◌}
 use Rattle.std.specs.Str.{IsUtf8}
 use Rattle.dia_peer.specs.declared.config.Role.{Role}
 use Rattle.dia_peer.specs.declared.config.Role.TheVariants.{Initiator, Responder}
@@ -25,12 +25,12 @@ IsRole n = (n ≡ 0) ⊎ (n ≡ 1)
 abbrev pub role_of : ℕ → Role
 role_of n = if nat_eq n 1 then Responder else Initiator
 
--- the one manner has the number 1, and 0 is none
+-- each manner has a bit
 abbrev pub IsManner : ℕ → Type 0
-IsManner n = (n ≡ 0) ⊎ (n ≡ 1)
+IsManner n = n < 16
 
 abbrev pub manner_of : ℕ → Manner
-manner_of n = record { relays = nat_eq n 1; life = false; values = false }
+manner_of n = record { relays = not (bit_and n 1 == 0); answers = not (bit_and n 2 == 0); life = not (bit_and n 4 == 0); values = not (bit_and n 8 == 0) }
 
 -- an IPv4 address has the first four of the bytes
 abbrev pub ip_of : PeerAddress → Ip

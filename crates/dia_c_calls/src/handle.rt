@@ -11,7 +11,7 @@ mod stream;
 mod text;
 
 pub use dict::{DictHandle, check_all_in, check_in, owner_in};
-pub use end::{give_in, peer_in, report_in, take_ids_in};
+pub use end::{give_in, hear_in, peer_in, report_in, take_ids_in};
 pub use faults::{FaultsHandle, faults_in};
 pub use peer::PeerHandle;
 pub use stream::{StreamHandle, feeding_in};

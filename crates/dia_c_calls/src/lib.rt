@@ -32,6 +32,7 @@ mod peer;
 mod peer_config;
 mod peer_numbers;
 mod peer_timers;
+mod peer_values;
 mod peers;
 mod recorded_fault;
 mod replies;
@@ -65,6 +66,7 @@ pub use listings::show;
 pub use opening::Problem;
 pub use peer_config::{PeerAddress, PeerApp, PeerNumbers};
 pub use peer_timers::{peer_identifiers, peer_quiet_ms, peer_timer};
+pub use peer_values::{peer_heard, peer_suspect, peer_value};
 pub use peers::{
     peer_close, peer_common, peer_event, peer_open, peer_open_as, peer_output, peer_serves,
     peer_state,

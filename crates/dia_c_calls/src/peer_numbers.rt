@@ -24,19 +24,15 @@ pub fn manner_of(manner: u32) -> Option<Manner>
     ensures some { IfSome result (λ found. (found ≡ manner_of manner) × IsManner manner) }
     ensures none { result ≡ None → ¬ IsManner manner }
 {
-    match manner {
-        0 => Some(Manner {
-            relays: false,
-            life: false,
-            values: false,
-        }),
-        1 => Some(Manner {
-            relays: true,
-            life: false,
-            values: false,
-        }),
-        _ => None,
+    if manner >= 16 {
+        return None;
     }
+    Some(Manner {
+        relays: manner & 1 != 0,
+        answers: manner & 2 != 0,
+        life: manner & 4 != 0,
+        values: manner & 8 != 0,
+    })
 }
 
 /// Whether messages of an application are for this connection, as a number.

@@ -59,7 +59,7 @@ pub fn peer_open(
     )
 }
 
-/// Opens one end of a connection that is of a manner: 1 is that of relays, 0 none.
+/// Opens one end of a connection that is of manners, each a bit: 1 relays, 2 answers, 4 life, 8 values; 0 is none.
 pub fn peer_open_as(
     alloc: Global,
     role: u32,

@@ -1,5 +1,5 @@
 -- The applications that two lists have in common, where relays are among the ends.
-use Rattle.std.proofs.Common.{◌≡◌, ℕ, Bool, true, false, cond, ◌&&◌, List, [], ◌∷◌, length, map, filter, Option, Some, None, inl, inr, ⊎_elim, refl, sym, ap, subst, ◌∙◌}
+use Rattle.std.proofs.Common.{◌≡◌, ℕ, Bool, true, false, cond, ◌&&◌, List, [], ◌∷◌, length, map, filter, Some, None, inl, inr, ⊎_elim, refl, sym, ap, subst, ◌∙◌}
 use Rattle.std.specs.Prelude.{◌↔◌, ◌==◌, ◌||◌, Contains, IsTrue, nat_lt}
 use Rattle.std.specs.List.{list_any}
 use Rattle.std.proofs.lemmas.Bool.{or_left, or_right}
@@ -7,7 +7,7 @@ use Rattle.std.proofs.lemmas.Option.{same_Some, none-some}
 use Rattle.dia_peer.specs.declared.config.Kind.{Kind}
 use Rattle.dia_peer.specs.declared.config.Kind.TheVariants.{Auth, Acct}
 use Rattle.dia_peer.specs.declared.config.Manner.{Manner}
-use Rattle.dia_peer.specs.Core.{PlainConfig, Pair, Serves, plain, pair, pair_of, pairs_of, same_pair, sorted_pairs, all, is_relay, relays, all_of, common_by, common_of}
+use Rattle.dia_peer.specs.Core.{PlainConfig, Pair, Serves, plain, pair, pair_of, pairs_of, same_pair, sorted_pairs, all, is_relay, relays, common_by, common_of}
 use Rattle.dia_peer.specs.World.{IsCommon}
 use Rattle.dia_peer.proofs.Sets.{IsIn, to_in, of_in, eq_same, in_sorted, into_sorted, in_both, into_both}
 use Rattle.dia_peer.specs.Incoming.{pick}

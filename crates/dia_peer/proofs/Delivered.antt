@@ -78,6 +78,7 @@ use Rattle.dia_peer.proofs.Sets.{IsIn, to_in, of_in, in_cases}
 use Rattle.dia_peer.proofs.SpelledMessages.{one_message, has_length}
 use Rattle.dia_peer.proofs.Advertised.{Held, quiet_front, quiet_answer, from_advertised, into_advertised, vendor_code, plain_code, three_cases, code_same, byte_sum}
 use Rattle.dia_peer.proofs.SentValues.{Says, cer_says, cea_says}
+use Rattle.dia_peer.proofs.Replies.{IsSomeReply, reply_no_request, reply_no_success}
 use Rattle.dia_peer.proofs.Moves.{MaySend, asks, accepts_it, refuses_it, watches, is_there, leaves, lets_go}
 
 -- ---- the code follows the flags
@@ -178,6 +179,11 @@ pub record IsSentBy (role : Role) (c : PlainConfig) (state : State) (bytes : Lis
   pub are_bytes : AreBytes bytes
   pub message : MessageWithZeros m.header m.avps bytes
 
+-- such a message, or an answer to what is no valid message
+pub data WasSent (role : Role) (c : PlainConfig) (state : State) (bytes : List ℕ) : Type 0 where
+  of_table : IsSentBy role c state bytes → WasSent role c state bytes
+  in_reply : IsSomeReply bytes → WasSent role c state bytes
+
 module _ (c : PlainConfig) (numbers : AllByRecursion (λ (a : App). a.id < 4294967296) c.apps) (b : List ℕ) where
   -- a good reading of what was sent has its code, its R flag, its identifiers and its AVPs
   pub sent_code : (m : Sent) (code : ℕ) (r e : Bool) (ids : Ids) (vs : List PlainAvp) → MessageWithZeros m.header m.avps b → IsGood b code r e ids vs → code ≡ m.header.code
@@ -233,9 +239,11 @@ module _ (c : PlainConfig) (numbers : AllByRecursion (λ (a : App). a.id < 42949
     cea_was_sent m ids vs apps (lets_go i e) z g has are = absurd (omega (arith, sent_code m 257 false false ids vs z g ∙ ap (λ (x : Sent). x.header.code) e))
 
     -- a CER that comes was sent by an initiator, and has the pairs of its configuration
-    pub received_cer : (ids : Ids) (same : List ℕ) (apps : List Pair) → IsSentBy role c state b → IsReceived b (Cer ids same apps) → (role ≡ Initiator) × ArePairs apps × Says c b
-    received_cer ids same apps s (vs, g, is, are) = cer_was_sent s.m ids vs apps s.may s.message g are
+    pub received_cer : (ids : Ids) (same : List ℕ) (apps : List Pair) → WasSent role c state b → IsReceived b (Cer ids same apps) → (role ≡ Initiator) × ArePairs apps × Says c b
+    received_cer ids same apps (of_table s) (vs, g, is, are) = cer_was_sent s.m ids vs apps s.may s.message g are
+    received_cer ids same apps (in_reply r) (vs, g, is, are) = absurd (reply_no_request b 257 false ids vs r g)
 
     -- a CEA of success that comes was sent by a responder that has opened, and has the pairs of its configuration
-    pub received_cea : (ids : Ids) (apps : List Pair) → IsSentBy role c state b → IsReceived b (Cea ids 2001 apps) → (role ≡ Responder) × IsPastOpen state × ArePairs apps × Says c b
-    received_cea ids apps s (vs, g, has, are) = cea_was_sent s.m ids vs apps s.may s.message g has are
+    pub received_cea : (ids : Ids) (apps : List Pair) → WasSent role c state b → IsReceived b (Cea ids 2001 apps) → (role ≡ Responder) × IsPastOpen state × ArePairs apps × Says c b
+    received_cea ids apps (of_table s) (vs, g, has, are) = cea_was_sent s.m ids vs apps s.may s.message g has are
+    received_cea ids apps (in_reply r) (vs, g, has, are) = absurd (reply_no_success b 257 ids vs r g has)

@@ -1,5 +1,5 @@
 use Rattle.std.proofs.Common.{◌⊎◌, ◌≡◌, ℕ, zero, suc, ◌<◌, Bool, true, false, cond, ◌&&◌, List, [], ◌∷◌, ◌++◌, length, map, Option, Some, None, inl, inr, ⊎_elim, refl, sym, ap, subst, ◌∙◌}
-use Rattle.std.specs.Prelude.{◌↔◌, nat_eq, slice_get}
+use Rattle.std.specs.Prelude.{◌↔◌, nat_eq, slice_get, ⊤}
 use Rattle.std.specs.List.{AllByRecursion, starts_with}
 use Rattle.std.proofs.lemmas.Option.{same_Some, none-some}
 use Rattle.dia_wire.specs.Wire.{PlainAvp, MessageWithZeros}
@@ -16,12 +16,15 @@ use Rattle.dia_peer.specs.Table.{Happening, Starts, Gets, Ticks, Stops, Breaks, 
 use Rattle.dia_peer.specs.Life.{heard, noticed, hears, lives}
 use Rattle.dia_peer.specs.Values.{awaits_cea, awaits_cer, introduces, leaves, newer, keeps}
 use Rattle.dia_peer.proofs.SentValues.{Says, values_are}
-use Rattle.dia_peer.specs.World.{End, World, Event, Start, Tick, Stop, Lose, TakeIds, Hear, Deliver, AreBytes, AreSpelled, Goes, GoesBy, KnowEachOther, HappensAt, Happens, Run, start, AreShared, IsCommon, HoldsShared, HoldSame, IsPastOpen, RepeatsAnswer, Agrees}
+use Rattle.dia_peer.specs.World.{End, World, Event, Start, Tick, Stop, Lose, TakeIds, Hear, Deliver, AreBytes, AreSpelled, Goes, Takes, AreSpelledAfter, Spoil, KnowEachOther, HappensAt, Happens, Run, start, AreShared, IsCommon, HoldsShared, HoldSame, IsPastOpen, RepeatsAnswer, Agrees}
 use Rattle.dia_peer.proofs.Sets.{IsIn, to_in, of_in, in_cases, in_left, in_right, eq_self}
 use Rattle.dia_peer.proofs.Commons.{relays_same, common_is, common_turns}
 use Rattle.dia_peer.proofs.SpelledMessages.{one_writing}
 use Rattle.dia_peer.proofs.Moves.{Suits, may_later, AllMay, Opened, stays, by_answer, by_request, Moves, lived}
-use Rattle.dia_peer.proofs.Delivered.{IsSentBy, is_request, received_cer, received_cea}
+use Rattle.dia_peer.proofs.Delivered.{IsSentBy, WasSent, of_table, in_reply, is_request, received_cer, received_cea}
+use Rattle.dia_peer.specs.Replies.{IsReplied, is_refused}
+use Rattle.dia_peer.proofs.Replies.{IsSomeReply, good_is_quiet, is_reply}
+use Rattle.dia_peer.proofs.ResultCode.{never}
 
 abbrev Numbers : PlainConfig → Type 0
 Numbers c = AllByRecursion (λ (a : App). a.id < 4294967296) c.apps
@@ -37,10 +40,11 @@ record IsEnd (role : Role) (c : PlainConfig) (manner : Manner) (e : End) : Type 
   role_is : e.core.role ≡ role
   manner_is : e.core.manner ≡ manner
   suits : Suits role e.core.state
-  sent : (bytes : List ℕ) → IsIn e.sent bytes → IsSentBy role c e.core.state bytes
+  sent : (bytes : List ℕ) → IsIn e.sent bytes → WasSent role c e.core.state bytes
 
-sent_later : (role : Role) (c : PlainConfig) (s t : State) (bytes : List ℕ) → (IsPastOpen s → IsPastOpen t) → IsSentBy role c s bytes → IsSentBy role c t bytes
-sent_later role c s t bytes past x = record { m = x.m; may = may_later role c s t x.m past x.may; are_bytes = x.are_bytes; message = x.message }
+sent_later : (role : Role) (c : PlainConfig) (s t : State) (bytes : List ℕ) → (IsPastOpen s → IsPastOpen t) → WasSent role c s bytes → WasSent role c t bytes
+sent_later role c s t bytes past (of_table x) = of_table (record { m = x.m; may = may_later role c s t x.m past x.may; are_bytes = x.are_bytes; message = x.message })
+sent_later role c s t bytes past (in_reply r) = in_reply r
 
 sent_now : (role : Role) (c : PlainConfig) (state : State) (deeds : List Deed) (messages : List (List ℕ)) → AreSpelled deeds messages → AllMay role c state deeds → (bytes : List ℕ)
     → IsIn messages bytes → IsSentBy role c state bytes
@@ -53,6 +57,20 @@ sent_now role c state (Sends s ∷ deeds) messages (b, rest, e, are, message, mo
     by (inl same) later = record { m = s; may = may.0; are_bytes = subst AreBytes same are; message = subst (MessageWithZeros s.header s.avps) same message }
     by (inr k) later = later k
 
+-- what is replied, and the messages after it
+abbrev AreReplies : Option (List ℕ) → Type 0
+AreReplies None = ⊤
+AreReplies (Some reply) = IsSomeReply reply
+
+sent_after : (role : Role) (c : PlainConfig) (state : State) (reply : Option (List ℕ)) (deeds : List Deed) (messages : List (List ℕ)) → AreReplies reply → AreSpelledAfter reply deeds messages → AllMay role c state deeds
+    → (bytes : List ℕ) → IsIn messages bytes → WasSent role c state bytes
+sent_after role c state None deeds messages replied is may bytes m = of_table (sent_now role c state deeds messages is may bytes m)
+sent_after role c state (Some reply) deeds messages replied (rest, e, are, more) may bytes m = by (subst (λ (x : List (List ℕ)). IsIn x bytes) e m)
+  where
+    by : IsIn (reply ∷ rest) bytes → WasSent role c state bytes
+    by (inl same) = in_reply (subst IsSomeReply same replied)
+    by (inr k) = of_table (sent_now role c state deeds rest more may bytes k)
+
 moved : (role : Role) (c : PlainConfig) (manner : Manner) (old : End) (h : Happening) → IsEnd role c manner old → Moves old.core h (lives old.core h)
 moved role c manner old h e = lived old.core h (subst (λ r. Suits r old.core.state) (sym e.role_is) e.suits)
 
@@ -60,9 +78,9 @@ moved role c manner old h e = lived old.core h (subst (λ r. Suits r old.core.st
 abbrev made : End → Happening → List (List ℕ) → Option (List ℕ) → Option (List ℕ) → End
 made old h messages met left = record { core = record (lives old.core h).core { met = met; left = left }; sent = old.sent ++ messages }
 
-end_goes : (role : Role) (c : PlainConfig) (manner : Manner) (old : End) (h : Happening) (messages : List (List ℕ)) → IsEnd role c manner old → AreSpelled (lives old.core h).deeds messages
-    → (met left : Option (List ℕ)) → IsEnd role c manner (made old h messages met left)
-end_goes role c manner old h messages e is met left =
+end_goes : (role : Role) (c : PlainConfig) (manner : Manner) (old : End) (h : Happening) (reply : Option (List ℕ)) (messages : List (List ℕ)) → IsEnd role c manner old → AreReplies reply
+    → AreSpelledAfter reply (lives old.core h).deeds messages → (met left : Option (List ℕ)) → IsEnd role c manner (made old h messages met left)
+end_goes role c manner old h reply messages e replied is met left =
     let m = moved role c manner old h e in
     let may : AllMay role c (lives old.core h).core.state (lives old.core h).deeds =
     subst (λ r. AllMay r c (lives old.core h).core.state (lives old.core h).deeds) e.role_is
@@ -73,13 +91,13 @@ end_goes role c manner old h messages e is met left =
       manner_is = m.manner ∙ e.manner_is;
       suits = subst (λ r. Suits r (lives old.core h).core.state) e.role_is m.suits;
       sent = λ bytes k. ⊎_elim (λ l. sent_later role c old.core.state (lives old.core h).core.state bytes m.past (e.sent bytes l))
-          (λ r. sent_now role c (lives old.core h).core.state (lives old.core h).deeds messages is may bytes r) (in_cases old.sent messages bytes k);
+          (λ r. sent_after role c (lives old.core h).core.state reply (lives old.core h).deeds messages replied is may bytes r) (in_cases old.sent messages bytes k);
     }
 
 -- ---- what comes was sent
 
 abbrev IsFrom : End → Happening → Type 0
-IsFrom other h = (what : Received) → h ≡ Gets what → (bytes : List ℕ) × IsIn other.sent bytes × IsReceived bytes what
+IsFrom other h = (what : Received) → h ≡ Gets what → is_refused what ≡ false → (bytes : List ℕ) × IsIn other.sent bytes × IsReceived bytes what
 
 abbrev what_of : Happening → Option Received
 what_of (Gets what) = Some what
@@ -98,7 +116,11 @@ record Went (old other new : End) : Type 0 where
   h : Happening
   messages : List (List ℕ)
   from : IsFrom other h
-  spelled : AreSpelled (lives old.core h).deeds messages
+  -- only what is refused is replied to
+  reply : Option (List ℕ)
+  replied : AreReplies reply
+  quiet : (what : Received) → h ≡ Gets what → is_refused what ≡ false → reply ≡ None
+  spelled : AreSpelledAfter reply (lives old.core h).deeds messages
   met : Option (List ℕ)
   left : Option (List ℕ)
   is : new ≡ made old h messages met left
@@ -114,7 +136,13 @@ abbrev IsBeside : End → End → Type 0
 IsBeside old new = (next : Ids) × (suspect : Bool) × (new ≡ beside old next suspect)
 
 by_itself : (old other new : End) (h : Happening) → what_of h ≡ None → Goes old h new → Went old other new
-by_itself old other new h none g = record { h = h; messages = g.0; from = λ what e. absurd (none-some what (sym none ∙ ap what_of e)); spelled = g.1; met = (lives old.core h).core.met; left = (lives old.core h).core.left; is = g.2; meets = λ what e. absurd (none-some what (sym none ∙ ap what_of e)); had = λ e. refl }
+by_itself old other new h none g = record { h = h; messages = g.0; from = λ what e. absurd (none-some what (sym none ∙ ap what_of e)); reply = None; replied = tt; quiet = λ what e good. refl; spelled = g.1; met = (lives old.core h).core.met; left = (lives old.core h).core.left; is = g.2; meets = λ what e. absurd (none-some what (sym none ∙ ap what_of e)); had = λ e. refl }
+
+-- what introduces the other end isn't refused
+introduced : (c : PlainCore) (what : Received) → introduces c what ≡ true → is_refused what ≡ false
+introduced c Unreadable e = never e
+introduced c Invalid e = never e
+introduced c what e = refl
 
 -- in an open connection the other end doesn't introduce itself
 known : (c : PlainCore) (what : Received) → c.state ≡ Open → introduces c what ≡ false
@@ -143,18 +171,26 @@ keeps_both : (values meets leaves : Bool) (bytes : List ℕ) (new : PlainCore)
 keeps_both true meets leaves bytes new = refl
 keeps_both false meets leaves bytes new = refl
 
-delivered : (old other new : End) (k : ℕ) (bytes : List ℕ) (what : Received) → slice_get other.sent k ≡ Some bytes → IsReceived bytes what → GoesBy (keeps old.core bytes what) old (Gets what) new → Went old other new
-delivered old other new k bytes what at received g = record {
+reply_is_some : (c : PlainCore) (bytes : List ℕ) (what : Received) (reply : Option (List ℕ)) → IsReplied c bytes what reply → AreReplies reply
+reply_is_some c bytes what None at = tt
+reply_is_some c bytes what (Some reply) at = (c.config, bytes, (is_reply c bytes what reply at).1)
+
+-- bytes come, which the other end sent if they are a valid message
+taken : (old other new : End) (bytes : List ℕ) (what : Received) → (is_refused what ≡ false → IsIn other.sent bytes) → IsReceived bytes what → Takes old bytes what new → Went old other new
+taken old other new bytes what at received (reply, replied, (messages, spelled, is)) = record {
   h = Gets what;
-  messages = g.0;
-  from = λ w e. (bytes, at_in other.sent k bytes at, subst (IsReceived bytes) (same_Some what w (ap what_of e)) received);
-  spelled = g.1;
+  messages = messages;
+  from = λ w e good. (bytes, at (ap is_refused (same_Some what w (ap what_of e)) ∙ good), subst (IsReceived bytes) (same_Some what w (ap what_of e)) received);
+  reply = reply;
+  replied = reply_is_some old.core bytes what reply replied;
+  quiet = λ w e good. good_is_quiet old.core bytes what reply (ap is_refused (same_Some what w (ap what_of e)) ∙ good) replied;
+  spelled = spelled;
   met = if_kept old.core.manner.values (introduces old.core what) bytes (lives old.core (Gets what)).core.met;
   left = if_kept old.core.manner.values (leaves old.core what) bytes (lives old.core (Gets what)).core.left;
-  is = g.2 ∙ ap (λ (c : PlainCore). record { core = c; sent = old.sent ++ g.0 }) (keeps_both old.core.manner.values (introduces old.core what) (leaves old.core what) bytes (lives old.core (Gets what)).core);
+  is = is ∙ ap (λ (c : PlainCore). record { core = c; sent = old.sent ++ messages }) (keeps_both old.core.manner.values (introduces old.core what) (leaves old.core what) bytes (lives old.core (Gets what)).core);
   meets = λ w e values by. (
     bytes,
-    at_in other.sent k bytes at,
+    at (introduced old.core what (ap (introduces old.core) (same_Some what w (ap what_of e)) ∙ by)),
     subst (IsReceived bytes) (same_Some what w (ap what_of e)) received,
     (λ i. if_kept (values i) ((ap (introduces old.core) (same_Some what w (ap what_of e)) ∙ by) i) bytes (lives old.core (Gets what)).core.met),
   );
@@ -169,7 +205,8 @@ went old other (Stop cause) new g = inl (by_itself old other new (Stops cause) r
 went old other Lose new g = inl (by_itself old other new Breaks refl g)
 went old other TakeIds new e = inr ((without_next old.core).next, old.core.suspect, e)
 went old other Hear new e = inr (old.core.next, false, e)
-went old other (Deliver k) new (bytes, what, at, received, g) = inl (delivered old other new k bytes what at received g)
+went old other (Deliver k) new (bytes, what, at, received, g) = inl (taken old other new bytes what (λ good. at_in other.sent k bytes at) received g)
+went old other (Spoil bytes) new (what, received, refused, g) = inl (taken old other new bytes what (λ good. never (sym good ∙ refused)) received g)
 
 -- ---- both ends
 
@@ -234,16 +271,16 @@ module _ (a : PlainConfig) (m : Manner) (b : PlainConfig) (n : Manner) (an : Num
       subst (λ (x : List Pair). IsShared m a b x × (0 < length x) × IsPastOpen w.responder.core.state) (sym common) (hold.i_open e)
   initiator_opens w h hold from (by_request ids bytes apps role is met common some taken deeds) = absurd (roles_differ w.initiator.core.role hold.i.role_is role)
   initiator_opens w h hold from (by_answer ids apps role is met common some) =
-      let (bytes, at, received) = from (Cea ids 2001 apps) is in
+      let (bytes, at, received) = from (Cea ids 2001 apps) is refl in
       let says = received_cea b bn bytes Responder w.responder.core.state ids apps (hold.r.sent bytes at) received in
       let config : common_of w.initiator.core.manner w.initiator.core.config apps ≡ common_of m a apps = λ i. common_of (hold.i.manner_is i) (hold.i.config i) apps in
       (shared_common m a b apps _ says.2 (sym config ∙ common), some, says.1)
 
   -- the responder opens by a CER of the initiator, and answers it
-  responder_opens : (w : World) (h : Happening) (messages : List (List ℕ)) → Holds a m b n w → IsFrom w.initiator h → AreSpelled (lives w.responder.core h).deeds messages
-      → (met left : Option (List ℕ)) → Opened w.responder.core h (lives w.responder.core h)
+  responder_opens : (w : World) (h : Happening) (reply : Option (List ℕ)) (messages : List (List ℕ)) → Holds a m b n w → IsFrom w.initiator h → ((what : Received) → h ≡ Gets what → is_refused what ≡ false → reply ≡ None)
+      → AreSpelledAfter reply (lives w.responder.core h).deeds messages → (met left : Option (List ℕ)) → Opened w.responder.core h (lives w.responder.core h)
       → IsShared n a b (lives w.responder.core h).core.common × (0 < length (lives w.responder.core h).core.common) × Took b (made w.responder h messages met left)
-  responder_opens w h messages hold from spelled met left (stays e common taken) =
+  responder_opens w h reply messages hold from quiet spelled met left (stays e common taken) =
       let old = hold.r_open e in let t = old.2 in (
         subst (IsShared n a b) (sym common) old.0,
         subst (λ (x : List Pair). 0 < length x) (sym common) old.1,
@@ -259,12 +296,13 @@ module _ (a : PlainConfig) (m : Manner) (b : PlainConfig) (n : Manner) (an : Num
           good = t.good;
         },
       )
-  responder_opens w h messages hold from spelled met left (by_answer ids apps role is known common some) = absurd (roles_differ w.responder.core.role role hold.r.role_is)
-  responder_opens w h messages hold from spelled met left (by_request ids same apps role is known common some taken deeds) =
-      let (bytes, at, received) = from (Cer ids same apps) is in
+  responder_opens w h reply messages hold from quiet spelled met left (by_answer ids apps role is known common some) = absurd (roles_differ w.responder.core.role role hold.r.role_is)
+  responder_opens w h reply messages hold from quiet spelled met left (by_request ids same apps role is known common some taken deeds) =
+      let (bytes, at, received) = from (Cer ids same apps) is refl in
       let says = received_cer a an bytes Initiator w.initiator.core.state ids same apps (hold.i.sent bytes at) received in
       let config : common_of w.responder.core.manner w.responder.core.config apps ≡ common_of n b apps = λ i. common_of (hold.r.manner_is i) (hold.r.config i) apps in
-      let (answer, rest, is_sent, are_bytes, message, none) = subst (λ (d : List Deed). AreSpelled d messages) deeds spelled in (
+      let alone = subst (λ (r : Option (List ℕ)). AreSpelledAfter r (lives w.responder.core h).deeds messages) (quiet (Cer ids same apps) is refl) spelled in
+      let (answer, rest, is_sent, are_bytes, message, none) = subst (λ (d : List Deed). AreSpelled d messages) deeds alone in (
         turned n a b (lives w.responder.core h).core.common (shared_common n b a apps _ says.1 (sym config ∙ common)),
         some,
         record {
@@ -301,7 +339,7 @@ module _ (a : PlainConfig) (m : Manner) (b : PlainConfig) (n : Manner) (an : Num
   initiator_goes : (w : World) (new : End) → Holds a m b n w → (g : Went w.initiator w.responder new)
       → Holds a m b n (record { initiator = made w.initiator g.h g.messages g.met g.left; responder = w.responder })
   initiator_goes w new hold g = record {
-    i = end_goes Initiator a m w.initiator g.h g.messages hold.i g.spelled g.met g.left;
+    i = end_goes Initiator a m w.initiator g.h g.reply g.messages hold.i g.replied g.spelled g.met g.left;
     r = hold.r;
     i_open = λ e. initiator_opens w g.h hold g.from ((moved Initiator a m w.initiator g.h hold.i).opened e);
     r_open = hold.r_open;
@@ -313,9 +351,9 @@ module _ (a : PlainConfig) (m : Manner) (b : PlainConfig) (n : Manner) (an : Num
       → Holds a m b n (record { initiator = w.initiator; responder = made w.responder g.h g.messages g.met g.left })
   responder_goes w new hold g = record {
     i = hold.i;
-    r = end_goes Responder b n w.responder g.h g.messages hold.r g.spelled g.met g.left;
+    r = end_goes Responder b n w.responder g.h g.reply g.messages hold.r g.replied g.spelled g.met g.left;
     i_open = λ e. (let o = hold.i_open e in (o.0, o.1, (moved Responder b n w.responder g.h hold.r).past o.2));
-    r_open = λ e. responder_opens w g.h g.messages hold g.from g.spelled g.met g.left ((moved Responder b n w.responder g.h hold.r).opened e);
+    r_open = λ e. responder_opens w g.h g.reply g.messages hold g.from g.quiet g.spelled g.met g.left ((moved Responder b n w.responder g.h hold.r).opened e);
     i_knows = hold.i_knows;
     r_knows = λ e values. responder_knows w new hold g ((moved Responder b n w.responder g.h hold.r).opened e) values;
   }
@@ -418,16 +456,18 @@ repeats b n e is_end open_now t = record {
   is_taken = t.is_taken;
   answer = t.answer;
   sent = of_in e.sent t.answer t.sent;
-  again = λ what new received g. once what new received g.0 g.1 g.2;
+  again = λ what new received (reply, replied, (messages, spelled, is)). once what new received reply replied messages spelled is;
 }
   where
-    once : (what : Received) (new : End) → IsReceived t.taken.bytes what → (messages : List (List ℕ)) → AreSpelled (lives e.core (Gets what)).deeds messages
+    once : (what : Received) (new : End) → IsReceived t.taken.bytes what → (reply : Option (List ℕ)) → IsReplied e.core t.taken.bytes what reply → (messages : List (List ℕ)) → AreSpelledAfter reply (lives e.core (Gets what)).deeds messages
         → new ≡ record { core = keeps e.core t.taken.bytes what (lives e.core (Gets what)).core; sent = e.sent ++ messages } → new ≡ record { core = noticed e.core; sent = e.sent ++ t.answer ∷ [] }
-    once what new received messages spelled is =
+    once what new received reply replied messages spelled is =
         let (ids, apps, is_cer) = is_request t.taken.bytes t.ids t.avps what t.good received in
+        let quiet : reply ≡ None = good_is_quiet e.core t.taken.bytes what reply (ap is_refused is_cer) replied in
+        let alone : AreSpelled (lives e.core (Gets what)).deeds messages = subst (λ (r : Option (List ℕ)). AreSpelledAfter r (lives e.core (Gets what)).deeds messages) quiet spelled in
         let out : lives e.core (Gets what) ≡ record { core = noticed e.core; deeds = Sends (cea e.core.config t.taken.ids 2001) ∷ [] } =
         ap (λ (x : Received). lives e.core (Gets x)) is_cer ∙ again_lives e.core t.taken ids apps open_now is_end.role_is t.is_taken in
-        let (bytes, rest, is_sent, are_bytes, message, none) = subst (λ (o : Outcome). AreSpelled o.deeds messages) out spelled in
+        let (bytes, rest, is_sent, are_bytes, message, none) = subst (λ (o : Outcome). AreSpelled o.deeds messages) out alone in
         let same : bytes ≡ t.answer = one_writing (cea b t.taken.ids 2001).header (cea b t.taken.ids 2001).avps bytes t.answer are_bytes t.are_bytes
         (subst (λ (c : PlainConfig). MessageWithZeros (cea c t.taken.ids 2001).header (cea c t.taken.ids 2001).avps bytes) is_end.config message) t.message in
         let all : messages ≡ t.answer ∷ [] = is_sent ∙ (λ i. same i ∷ none i) in

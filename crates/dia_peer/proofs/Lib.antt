@@ -22,6 +22,10 @@ pub mod ResultCode
 pub mod KeptApplications
 pub mod OneResult
 pub mod OneStep
+pub mod Replies
+pub mod InvalidRequests
+pub mod OneOutcome
+pub mod TakenBytes
 pub mod Watchdogs
 pub mod ByManner
 pub mod SentValues

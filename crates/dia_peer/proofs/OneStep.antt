@@ -1,8 +1,7 @@
--- Bytes are received in one way, up to the order of applications, and a step has one outcome.
+-- Bytes are received in one way, up to the order of applications, and by the table a step has one outcome.
 use Rattle.std.proofs.Common.{◌≡◌, ℕ, Bool, true, false, List, [], ◌∷◌, length, map, take, drop, inl, inr, refl, sym, ap, subst, ◌∙◌}
-use Rattle.std.specs.Prelude.{◌==◌, ◌↔◌, IsTrue, All}
+use Rattle.std.specs.Prelude.{◌==◌, ◌↔◌, IsTrue}
 use Rattle.std.specs.List.{AllByRecursion}
-use Rattle.std.proofs.lemmas.List.Elements.{recursion_from_All}
 use Rattle.dia_wire.specs.declared.Header.{Header}
 use Rattle.dia_wire.specs.Number.{number}
 use Rattle.dia_wire.specs.Wire.{PlainAvp}
@@ -17,7 +16,6 @@ use Rattle.dia_peer.specs.declared.event.Event.TheVariants as event
 use Rattle.dia_peer.specs.declared.event.Output.{Output}
 use Rattle.dia_peer.specs.declared.event.Output.TheVariants as output
 use Rattle.dia_peer.specs.declared.event.Why.{Why}
-use Rattle.dia_peer.specs.declared.event.Why.TheVariants as why
 use Rattle.dia_peer.specs.Core.{PlainCore, Pair}
 use Rattle.dia_peer.specs.Messages.{
   Received,
@@ -42,7 +40,7 @@ use Rattle.dia_peer.specs.Messages.{
 use Rattle.dia_peer.specs.Table.{Happening, Gets, Deed, Sends, Closes, Outcome}
 use Rattle.dia_peer.specs.Life.{lives}
 use Rattle.dia_peer.specs.Values.{keeps}
-use Rattle.dia_peer.specs.Machine.{IsHappening, IsOutput, AreOutputs, kept_at, IsStep}
+use Rattle.dia_peer.specs.Machine.{IsHappening, IsOutput, AreOutputs, kept_at}
 use Rattle.dia_peer.specs.Outputs.{SentBytes, ClosedFor, plain_output, SendsBytes}
 use Rattle.dia_peer.proofs.Sets.{eq_same}
 use Rattle.dia_peer.proofs.Orders.{one_list}
@@ -62,7 +60,7 @@ both_true false false f g = refl
 abbrev full : PlainCore → List ℕ → Received → Outcome
 full c b what = record { core = keeps c b what (lives c (Gets what)).core; deeds = (lives c (Gets what)).deeds }
 
-abbrev stepped : PlainCore → Event → Happening → Outcome
+abbrev pub stepped : PlainCore → Event → Happening → Outcome
 stepped c e h = record { core = kept_at c e h (lives c h).core; deeds = (lives c h).deeds }
 
 -- ---- lists of the same applications
@@ -100,24 +98,24 @@ recorded_same c b false false true false ids n m apps others lists results = ref
 recorded_same c b false false false true ids n m apps others lists results = refl
 recorded_same c b false false false false ids n m apps others lists results = refl
 
-record Reading (b : List ℕ) (what : Received) : Type 0 where
-  code : ℕ
-  request : Bool
-  error : Bool
-  ids : Ids
-  avps : List PlainAvp
-  result : ℕ
-  apps : List Pair
-  good : IsGood b code request error ids avps
-  ours : IsOurCode code
-  advertised : error ≡ false → (code == 257) ≡ true → AreAdvertised avps apps
-  resulted : error ≡ false → (code == 257) ≡ true → request ≡ false → HasResult avps result
-  is : what ≡ recorded b error (code == 257) request (code == 280) ids result apps
+pub record Reading (b : List ℕ) (what : Received) : Type 0 where
+  pub code : ℕ
+  pub request : Bool
+  pub error : Bool
+  pub ids : Ids
+  pub avps : List PlainAvp
+  pub result : ℕ
+  pub apps : List Pair
+  pub good : IsGood b code request error ids avps
+  pub ours : IsOurCode code
+  pub advertised : error ≡ false → (code == 257) ≡ true → AreAdvertised avps apps
+  pub resulted : error ≡ false → (code == 257) ≡ true → request ≡ false → HasResult avps result
+  pub is : what ≡ recorded b error (code == 257) request (code == 280) ids result apps
 
-reading_long : (b : List ℕ) (what : Received) → Reading b what → HasLength b (length b)
+pub reading_long : (b : List ℕ) (what : Received) → Reading b what → HasLength b (length b)
 reading_long b what r = has_length r.good.header r.avps b r.good.message
 
-reading_ours : (b : List ℕ) (what : Received) → Reading b what → IsOurCode (number (take 3 (drop 5 b)))
+pub reading_ours : (b : List ℕ) (what : Received) → Reading b what → IsOurCode (number (take 3 (drop 5 b)))
 reading_ours b what r = subst IsOurCode (sym (code_at r.good.header r.avps b r.good.message ∙ r.good.code_is)) r.ours
 
 flag_same : (P : ℕ → Type 0) (h k : Header) (x y : Bool) → h ≡ k → (IsTrue x ↔ P h.flags) → (IsTrue y ↔ P k.flags) → x ≡ y
@@ -152,7 +150,7 @@ reading_same c b what again r s =
 
 -- ---- what bytes are to a core
 
-data Status (b : List ℕ) (what : Received) : Type 0 where
+pub data Status (b : List ℕ) (what : Received) : Type 0 where
   unreadable : what ≡ Unreadable → ¬ HasLength b (length b) → Status b what
   foreign : what ≡ Foreign → HasLength b (length b) → ¬ IsOurCode (number (take 3 (drop 5 b))) → Status b what
   invalid : what ≡ Invalid → HasLength b (length b) → IsOurCode (number (take 3 (drop 5 b))) → ¬ IsValid base Kept Any b → Status b what
@@ -176,7 +174,7 @@ simple b what code request error ids avps g ours none is = is_good (record {
   is = is;
 })
 
-status : (b : List ℕ) (what : Received) → IsReceived b what → Status b what
+pub status : (b : List ℕ) (what : Received) → IsReceived b what → Status b what
 status b Unreadable u = unreadable refl u
 status b Foreign (long, u) = foreign refl long u
 status b Invalid (long, ours, u) = invalid refl long ours u
@@ -236,7 +234,7 @@ status_same c b what again (is_good r) (is_good s) = reading_same c b what again
 
 -- ---- one step
 
-happening_same : (c : PlainCore) (e : Event) (h k : Happening) → IsHappening e h → IsHappening e k → stepped c e h ≡ stepped c e k
+pub happening_same : (c : PlainCore) (e : Event) (h k : Happening) → IsHappening e h → IsHappening e k → stepped c e h ≡ stepped c e k
 happening_same c event.Start h k x y = ap (λ (z : Happening). stepped c event.Start z) (x ∙ sym y)
 happening_same c (event.Bytes bytes) h k (what, is, x) (again, are, y) =
     ap (λ (z : Happening). stepped c (event.Bytes bytes) z) x
@@ -254,7 +252,7 @@ output_same (Closes reason) (output.Send s) p is also x y = absurd is
 output_same (Closes reason) (output.Close v) (output.Send s) is also x y = absurd also
 output_same (Closes reason) (output.Close v) (output.Close w) is also x y = ap (λ (r : Why). ClosedFor r) (sym is ∙ also)
 
-outputs_same : (deeds : List Deed) (a b : List Output) → AreOutputs deeds a → AreOutputs deeds b → AllByRecursion SendsBytes a → AllByRecursion SendsBytes b → map plain_output a ≡ map plain_output b
+pub outputs_same : (deeds : List Deed) (a b : List Output) → AreOutputs deeds a → AreOutputs deeds b → AllByRecursion SendsBytes a → AllByRecursion SendsBytes b → map plain_output a ≡ map plain_output b
 outputs_same [] [] [] are more x y = refl
 outputs_same [] [] (p ∷ b) are more x y = absurd more
 outputs_same [] (o ∷ a) b are more x y = absurd are
@@ -263,11 +261,3 @@ outputs_same (d ∷ deeds) (o ∷ a) [] are more x y = absurd more
 outputs_same (d ∷ deeds) (o ∷ a) (p ∷ b) (is, are) (also, more) (x, xs) (y, ys) =
     let first = output_same d o p is also x y in let later = outputs_same deeds a b are more xs ys in
     λ i. first i ∷ later i
-
-pub same_outcome : (old new other : PlainCore) (e : Event) (a b : List Output) → IsStep old e a new → IsStep old e b other → All SendsBytes a → All SendsBytes b
-    → (new ≡ other) × (map plain_output a ≡ map plain_output b)
-same_outcome old new other e a b (h, is, x, are) (k, also, y, more) u v =
-    let same : stepped old e h ≡ stepped old e k = happening_same old e h k is also in (
-      x ∙ ap (λ (o : Outcome). o.core) same ∙ sym y,
-      outputs_same (stepped old e k).deeds a b (subst (λ (o : Outcome). AreOutputs o.deeds a) same are) more (recursion_from_All SendsBytes a u) (recursion_from_All SendsBytes b v),
-    )

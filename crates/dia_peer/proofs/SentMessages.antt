@@ -1,23 +1,32 @@
--- A step sends our messages and no others, so what it sends is valid.
-use Rattle.std.proofs.Common.{ℕ, Bool, true, false, cond, List, [], ◌∷◌, Option, Some, None}
-use Rattle.std.specs.Prelude.{◌==◌, ◌&&◌, not, ⊤, All}
+-- A step sends our messages and answers to invalid requests, and no others, so what it sends is valid.
+use Rattle.std.proofs.Common.{ℕ, Bool, true, false, cond, List, [], ◌∷◌, Option, Some, None, inl, inr, sym, subst}
+use Rattle.std.specs.Prelude.{◌==◌, ◌&&◌, not, ⊤, IsTrue}
 use Rattle.std.specs.List.{AllByRecursion}
+use Rattle.std.proofs.lemmas.Option.{none-some}
 use Rattle.std.proofs.lemmas.List.Elements.{All-from_recursion}
+use Rattle.dia_dict.specs.Base.{base}
+use Rattle.dia_check.specs.declared.Unknown.TheVariants.{Kept}
+use Rattle.dia_check.specs.declared.Levels.TheVariants.{Any}
+use Rattle.dia_valid.specs.Valid.{IsValid}
+use Rattle.dia_answer.specs.Dictionaries.{opaque}
 use Rattle.dia_peer.specs.declared.event.Event.{Event}
+use Rattle.dia_peer.specs.declared.event.Event.TheVariants as event
 use Rattle.dia_peer.specs.declared.event.Output.{Output}
 use Rattle.dia_peer.specs.declared.event.Output.TheVariants as output
 use Rattle.dia_peer.specs.declared.config.Role.{Role}
 use Rattle.dia_peer.specs.declared.config.Role.TheVariants.{Initiator, Responder}
 use Rattle.dia_peer.specs.declared.event.State.{State}
 use Rattle.dia_peer.specs.declared.event.State.TheVariants.{Idle, WaitCea, WaitCer, Open, WaitDpa}
+use Rattle.dia_peer.specs.declared.event.Why.{Why}
 use Rattle.dia_peer.specs.declared.event.Why.TheVariants as why
 use Rattle.dia_peer.specs.declared.kept_requests.Ids.{Ids}
 use Rattle.dia_peer.specs.Core.{PlainConfig, PlainCore, PlainTaken, Pair, IsConfig, common_of}
 use Rattle.dia_peer.specs.Messages.{Cer, Dwr, Dpr, Cea, Refusal, Dwa, Dpa, cea, dwr, after, IsOurs, is_cer, is_cea, is_dwr, is_dwa, is_dpr, is_dpa}
-use Rattle.dia_peer.specs.Machine.{AreOutputs, IsSound, IsStep}
+use Rattle.dia_peer.specs.Machine.{AreOutputs, AreOutputsAfter, AreSound, IsRepliedAt, IsSound, IsSoundReply, IsStep}
 use Rattle.dia_peer.specs.Table.{Happening, Starts, Gets, Ticks, Stops, Breaks, Deed, Sends, Closes, Outcome, nothing, closes, same_bytes, same_ids, starts, opens, answered, accepts, repeated, only_responder, ticks_open, happens_in, happens}
 use Rattle.dia_peer.specs.Life.{is_open, suspects, hears, lives}
 use Rattle.dia_peer.proofs.OurMessages.{ours_are_valid}
+use Rattle.dia_peer.proofs.Replies.{is_reply, lives_refused, reply_is_valid, with_answers}
 
 -- each message that is sent is one of the configuration's
 abbrev AreOurs : PlainConfig → List Deed → Type 0
@@ -100,5 +109,24 @@ sound c ok (Closes reason ∷ deeds) (output.Send bytes ∷ outputs) ours (is, a
 sound c ok [] (o ∷ outputs) ours are = absurd are
 sound c ok (d ∷ deeds) [] ours are = absurd are
 
-pub step_is_sound : (old : PlainCore) (e : Event) (outputs : List Output) (new : PlainCore) → IsConfig old.config → IsStep old e outputs new → All IsSound outputs
-step_is_sound old e outputs new ok (h, happening, same, are) = All-from_recursion IsSound outputs (sound old.config ok (lives old h).deeds outputs (by_manner old h) are)
+sound_reply : (reply : List ℕ) (outputs : List Output) → IsValid (opaque base) Kept Any reply → AreOutputsAfter (Some reply) (Closes why.Invalid ∷ []) outputs → IsSoundReply outputs
+sound_reply reply [] valid are = absurd are
+sound_reply reply (output.Close same ∷ outputs) valid are = absurd are
+sound_reply reply (output.Send bytes ∷ []) valid (is, are) = absurd are
+sound_reply reply (output.Send bytes ∷ output.Send more ∷ outputs) valid (is, are) = absurd are.0
+sound_reply reply (output.Send bytes ∷ output.Close same ∷ o ∷ outputs) valid (is, are) = absurd are.1
+sound_reply reply (output.Send bytes ∷ output.Close same ∷ []) valid (is, are) =
+    subst (λ (w : Why). IsSoundReply (output.Send bytes ∷ output.Close w ∷ [])) are.0 (subst (IsValid (opaque base) Kept Any) (sym is) valid)
+
+sound_after : (old : PlainCore) (e : Event) (h : Happening) (reply : List ℕ) (outputs : List Output) → IsRepliedAt old e h (Some reply) → AreOutputsAfter (Some reply) (lives old h).deeds outputs
+    → IsTrue old.manner.answers × IsSoundReply outputs
+sound_after old (event.Bytes bytes) (Gets what) reply outputs at are =
+    let (is, has) = is_reply old bytes.now what reply at in (
+      (with_answers old bytes.now what is).1,
+      sound_reply reply outputs (reply_is_valid old.config bytes.now reply has) (subst (λ (o : Outcome). AreOutputsAfter (Some reply) o.deeds outputs) (lives_refused old bytes.now what is) are),
+    )
+sound_after old e h reply outputs at are = absurd (none-some reply (sym at))
+
+pub step_is_sound : (old : PlainCore) (e : Event) (outputs : List Output) (new : PlainCore) → IsConfig old.config → IsStep old e outputs new → AreSound old.manner outputs
+step_is_sound old e outputs new ok (h, happening, same, (None, at, are)) = inl (All-from_recursion IsSound outputs (sound old.config ok (lives old h).deeds outputs (by_manner old h) are))
+step_is_sound old e outputs new ok (h, happening, same, (Some reply, at, are)) = inr (sound_after old e h reply outputs at are)

@@ -92,7 +92,7 @@ pub record IsConfig (c : PlainConfig) : Type 0 where
 
 -- no manner beyond those of two nodes that talk to each other
 abbrev pub plain : Manner
-plain = record { relays = false; life = false; values = false }
+plain = record { relays = false; answers = false; life = false; values = false }
 
 -- the application of relays (RFC 6733 section 2.4) is for those of that manner
 abbrev pub MayHold : Manner → List App → Type 0

@@ -3,6 +3,7 @@ pub mod Messages
 pub mod Table
 pub mod Life
 pub mod Values
+pub mod Replies
 pub mod World
 pub mod Machine
 pub mod Drafts

@@ -1,5 +1,5 @@
 -- Two ends that send messages to each other. What is delivered was sent: at any time, any number of times, or never.
-use Rattle.std.specs.Prelude.{◌≡◌, ℕ, ◌<◌, ◌⊎◌, ◌↔◌, Bool, List, [], ◌∷◌, ◌++◌, length, map, Some, None, Contains, slice_get, true, false}
+use Rattle.std.specs.Prelude.{◌≡◌, ℕ, ◌<◌, ◌⊎◌, ◌↔◌, Bool, List, [], ◌∷◌, ◌++◌, length, map, Option, Some, None, Contains, slice_get, true, false}
 use Rattle.std.specs.List.{AllByRecursion}
 use Rattle.dia_wire.specs.Wire.{MessageWithZeros}
 use Rattle.dia_peer.specs.declared.config.Role.{Role}
@@ -15,6 +15,7 @@ use Rattle.dia_peer.specs.Messages.{Received, IsReceived}
 use Rattle.dia_peer.specs.Table.{Happening, Starts, Gets, Ticks, Stops, Breaks, Deed, Sends, Closes, without_next}
 use Rattle.dia_peer.specs.Life.{lives, heard, noticed}
 use Rattle.dia_peer.specs.Values.{keeps, AreValuesOf}
+use Rattle.dia_peer.specs.Replies.{IsReplied, is_refused}
 
 -- the core of a configuration before its first event
 abbrev pub idle : PlainConfig → Role → Manner → PlainCore
@@ -45,7 +46,7 @@ pub record World : Type 0 where
   pub initiator : End
   pub responder : End
 
--- an event at one end. A delivery is of the k-th message that the other end ever sent
+-- an event at one end. A delivery is of the k-th message that the other end ever sent; what is no valid message may come from anywhere
 pub data Event : Type 0 where
   Start : Event
   Tick : Event
@@ -54,6 +55,7 @@ pub data Event : Type 0 where
   TakeIds : Event
   Hear : Event
   Deliver : (k : ℕ) → Event
+  Spoil : (bytes : List ℕ) → Event
 
 -- each is a byte
 abbrev pub AreBytes : List ℕ → Type 0
@@ -65,12 +67,19 @@ AreSpelled [] messages = messages ≡ []
 AreSpelled (Closes why ∷ deeds) messages = AreSpelled deeds messages
 AreSpelled (Sends m ∷ deeds) messages = (bytes : List ℕ) × (rest : List (List ℕ)) × (messages ≡ bytes ∷ rest) × AreBytes bytes × MessageWithZeros m.header m.avps bytes × AreSpelled deeds rest
 
--- what happens at an end, and what it then has sent, by what it keeps of the other
-abbrev pub GoesBy : (PlainCore → PlainCore) → End → Happening → End → Type 0
-GoesBy keeps old h new = (messages : List (List ℕ)) × AreSpelled (lives old.core h).deeds messages × (new ≡ record { core = keeps (lives old.core h).core; sent = old.sent ++ messages })
+-- the same, after the answer to a request, if there is one
+abbrev pub AreSpelledAfter : Option (List ℕ) → List Deed → List (List ℕ) → Type 0
+AreSpelledAfter None deeds messages = AreSpelled deeds messages
+AreSpelledAfter (Some reply) deeds messages = (rest : List (List ℕ)) × (messages ≡ reply ∷ rest) × AreBytes reply × AreSpelled deeds rest
 
+-- what happens at an end, and what it then has sent
 abbrev pub Goes : End → Happening → End → Type 0
-Goes old h new = GoesBy (λ c. c) old h new
+Goes old h new = (messages : List (List ℕ)) × AreSpelled (lives old.core h).deeds messages × (new ≡ record { core = (lives old.core h).core; sent = old.sent ++ messages })
+
+-- bytes come to an end: what it keeps of the other, and what it then has sent, after the answer to them
+abbrev pub Takes : End → List ℕ → Received → End → Type 0
+Takes old bytes what new = (reply : Option (List ℕ)) × IsReplied old.core bytes what reply × ((messages : List (List ℕ)) × AreSpelledAfter reply (lives old.core (Gets what)).deeds messages
+    × (new ≡ record { core = keeps old.core bytes what (lives old.core (Gets what)).core; sent = old.sent ++ messages }))
 
 abbrev pub HappensAt : End → End → Event → End → Type 0
 HappensAt old other Start new = Goes old Starts new
@@ -79,7 +88,8 @@ HappensAt old other (Stop cause) new = Goes old (Stops cause) new
 HappensAt old other Lose new = Goes old Breaks new
 HappensAt old other TakeIds new = new ≡ record { core = without_next old.core; sent = old.sent }
 HappensAt old other Hear new = new ≡ record { core = heard old.core; sent = old.sent }
-HappensAt old other (Deliver k) new = (bytes : List ℕ) × (what : Received) × (slice_get other.sent k ≡ Some bytes) × IsReceived bytes what × GoesBy (keeps old.core bytes what) old (Gets what) new
+HappensAt old other (Deliver k) new = (bytes : List ℕ) × (what : Received) × (slice_get other.sent k ≡ Some bytes) × IsReceived bytes what × Takes old bytes what new
+HappensAt old other (Spoil bytes) new = (what : Received) × IsReceived bytes what × (is_refused what ≡ true) × Takes old bytes what new
 
 abbrev pub Happens : World → Role → Event → World → Type 0
 Happens w Initiator e v = HappensAt w.initiator w.responder e v.initiator × (v.responder ≡ w.responder)
@@ -122,7 +132,7 @@ pub record RepeatsAnswer (responder : End) : Type 0 where
   pub is_taken : responder.core.taken ≡ Some taken
   pub answer : List ℕ
   pub sent : Contains responder.sent answer
-  pub again : (what : Received) (new : End) → IsReceived taken.bytes what → GoesBy (keeps responder.core taken.bytes what) responder (Gets what) new → new ≡ record { core = noticed responder.core; sent = responder.sent ++ answer ∷ [] }
+  pub again : (what : Received) (new : End) → IsReceived taken.bytes what → Takes responder taken.bytes what new → new ≡ record { core = noticed responder.core; sent = responder.sent ++ answer ∷ [] }
 
 pub record Agrees (a : PlainConfig) (m : Manner) (b : PlainConfig) (n : Manner) (w : World) : Type 0 where
   pub initiator : HoldsShared m a b w.initiator.core

@@ -63,6 +63,9 @@ pub struct Manner {
     /// The application 4294967295 says that an end relays (RFC 6733 sections 2.4 and 5.3): it has all applications of the
     /// other in common with it. Without this manner the number is one as others, and no configuration may hold it.
     pub relays: bool,
+    /// A request that is no valid message is answered with its fault in front of the close (RFC 6733 sections 7.1.5 and 7.2),
+    /// where the connection is open, or it is a CER that is waited for. Without this manner it only closes the connection.
+    pub answers: bool,
     /// A watchdog without answer first makes the connection suspect, and closes it at the `Tick` after that, if nothing is
     /// heard of the peer (RFC 3539 section 3.4.1). Without this manner the first such `Tick` closes it.
     pub life: bool,

@@ -7,6 +7,7 @@ ghost use Rattle.dia_peer.specs.World.{idle};
 
 mod life;
 mod on_message;
+mod replies;
 mod values;
 
 use crate::codes::RELAY;
@@ -67,7 +68,7 @@ impl Model for Core {
 }
 
 impl Core {
-    ghost use Rattle.dia_peer.specs.Machine.{IsStep, IsRefusedAs, IsSound, Does};
+    ghost use Rattle.dia_peer.specs.Machine.{AreSound, IsStep, IsRefusedAs, Does};
     ghost use Rattle.dia_peer.specs.Table.{
       happens,
       starts,
@@ -91,6 +92,7 @@ impl Core {
     {
         let manner = Manner {
             relays: false,
+            answers: false,
             life: false,
             values: false,
         };
@@ -166,10 +168,11 @@ impl Core {
 
     /// What is to be done at an event, in order. On an error, which is an allocation failure, nothing has changed.
     ///
-    /// The bytes of a message are checked once, and those of a CER or a CEA are read once more.
+    /// The bytes of a message are checked once, and those of a CER or a CEA are read once more; those that are answered are
+    /// checked once more, and so is the answer.
     pub fn step(&mut self, event: Event<'_>) -> Result<Vec<Output>, AllocError>
         ensures ok { IfOk result (λ outputs. IsStep self.old event.entry outputs.items self.new) }
-        ensures valid { IfOk result (λ outputs. All IsSound outputs.items) }
+        ensures valid { IfOk result (λ outputs. AreSound self.old.manner outputs.items) }
         ensures err { OnErr result (self.new ≡ self.old) }
     {
         // The proof of `valid` reads here that the node's configuration is accepted.
@@ -184,10 +187,7 @@ impl Core {
     {
         match event {
             Event::Start => self.starts(),
-            Event::Bytes(bytes) => {
-                let what = self.node.received(bytes)?;
-                self.keeps(bytes, what)
-            }
+            Event::Bytes(bytes) => self.takes_bytes(bytes),
             Event::Tick => self.waits_on(),
             Event::Stop(cause) => self.stops(cause),
             Event::Lost => Ok(self.breaks()),

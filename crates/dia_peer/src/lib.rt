@@ -49,6 +49,7 @@ pub use config::{App, Config, ConfigFault, Ip, Kind, Manner, Role};
 pub use connection::{Core, Value};
 pub use event::{Cause, Event, Output, State, Why};
 pub use laws::{
-    agreement, one_step, our_messages_are_valid, plain, silence, their_values, without_relays,
+    agreement, answered, one_step, our_messages_are_valid, plain, silence, their_values,
+    without_relays,
 };
 pub use timing::{TimerAction, quiet_ms, timer};

@@ -8,6 +8,7 @@ ghost use Rattle.dia_peer.specs.Core.{IsConfig, IsAccepted, plain_config, pair_o
 ghost use Rattle.dia_peer.specs.Core.{pairs_of, same_pair, sorted_pairs, common_by, common_of, relays, all};
 ghost use Rattle.dia_peer.specs.Incoming.{pairs_named, plain_pairs};
 ghost use Rattle.dia_peer.specs.Drafts.{drafted};
+ghost use Rattle.dia_peer.specs.Replies.{IsReplyOf};
 ghost use Rattle.dia_peer.specs.Messages.{
   avp,
   address,
@@ -32,6 +33,7 @@ use crate::config::{App, Config, ConfigFault, Ip, Kind, Manner};
 use crate::draft::Draft;
 use crate::judging::judge;
 use crate::named_apps::NamedApps;
+use dia_answer::{Made, Names};
 use dia_wire::AVP_MANDATORY;
 use std::alloc::{AllocError, Global};
 
@@ -65,6 +67,21 @@ impl Node {
             manner,
             apps,
         })
+    }
+
+    /// The answer to a request that is no valid message, if it gets one.
+    pub(crate) fn reply(&self, bytes: &[u8]) -> Result<Option<Vec<u8>>, AllocError>
+        ensures { IfOk result (λ found.
+            IsReplyOf (plain_config self.now.config) bytes.now (option_map (λ v. v.items) found)) }
+    {
+        let names = Names {
+            host: self.config.host.as_str(),
+            realm: self.config.realm.as_str(),
+        };
+        match self.base.answer(self.alloc, &names, bytes)? {
+            Ok(Made { bytes, .. }) => Ok(Some(bytes)),
+            Err(_) => Ok(None),
+        }
     }
 
     /// The applications that the configuration has in common with these. None: more than an end may hold.

@@ -41,6 +41,7 @@ fn end(rt: &(impl AllocGlobal + Abort), config: Config, role: Role) -> Box<Core>
 fn relay(rt: &(impl AllocGlobal + Abort), config: Config, role: Role) -> Box<Core> {
     let manner = Manner {
         relays: true,
+        answers: false,
         life: false,
         values: false,
     };

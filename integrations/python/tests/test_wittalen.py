@@ -315,6 +315,61 @@ class Peers(unittest.TestCase):
         relay.receive(cea)
         self.assertEqual((relay.state, relay.common), (State.OPEN, [Application(4)]))
 
+    def test_answers(self):
+        spoiled = bytes.fromhex("0100001480000118000000000000000100000002")
+        for answers in (False, True):
+            second = Peer(Role.RESPONDER, "b.example.com", "example.org", [Application(4)], answers=answers)
+            first = Peer(Role.INITIATOR, "a.example.com", "example.com", [Application(4)])
+            second.start()
+            (cer,) = first.start()
+            second.receive(cer)
+            *sent, why = second.receive(spoiled)
+            self.assertEqual((why, len(sent)), (Why.INVALID, int(answers)))
+            for answer in sent:
+                self.assertEqual((answer[:1], answer[4:20]), (b"\x01", b"\x00" + spoiled[5:]))
+                self.assertIn(b"fault 5005 at 20 missing Origin-Host", answer)
+
+    def test_long_answer(self):
+        # the state and Failed-AVP of the answer together are longer than all other messages of an end
+        first = Peer(Role.INITIATOR, "a.example.com", "example.com", [Application(4)])
+        second = Peer(Role.RESPONDER, "b.example.com", "example.org", [Application(4)], answers=True)
+        second.start()
+        (cer,) = first.start()
+        second.receive(cer)
+        unknown = bytes.fromhex("0000270f40") + (40_008).to_bytes(3, "big") + bytes(40_000)
+        body = bytes.fromhex("000001084000000b612e6200000001284000000962000000") + unknown
+        dwr = bytes([1]) + (20 + len(body)).to_bytes(3, "big") + bytes.fromhex("80000118000000000000000100000002") + body
+        answer, why = second.receive(dwr)
+        self.assertEqual(why, Why.INVALID)
+        self.assertIn(unknown, answer)
+
+    def test_life(self):
+        first, second = (Peer(role, "a.example.com", "example.com", [Application(4)], life=True) for role in Role)
+        second.start()
+        (cer,) = first.start()
+        (cea,) = second.receive(cer)
+        first.receive(cea)
+        first.tick()
+        self.assertFalse(first.suspect)
+        self.assertEqual((first.tick(), first.suspect), ([], True))
+        first.heard()
+        self.assertFalse(first.suspect)
+        self.assertEqual((first.tick(), first.tick()), ([], [Why.WATCHDOG]))
+
+    def test_values(self):
+        first = Peer(Role.INITIATOR, "a.example.com", "example.com", [Application(4)], product="one", values=True)
+        second = Peer(Role.RESPONDER, "b.example.com", "example.org", [Application(4)], product="two", values=True)
+        second.start()
+        self.assertEqual((second.host, second.result, second.cause), (None, None, None))
+        (cer,) = first.start()
+        (cea,) = second.receive(cer)
+        first.receive(cea)
+        self.assertEqual((second.host, second.realm, second.product), ("a.example.com", "example.com", "one"))
+        self.assertEqual((first.host, first.realm, first.product, first.result), ("b.example.com", "example.org", "two", 2001))
+        (dpr,) = first.stop(Cause.BUSY)
+        second.receive(dpr)
+        self.assertEqual(second.cause, Cause.BUSY)
+
     def test_refused(self):
         for title, words in (("host", ("", "example.com", [Application(4)])), ("applications", ("a", "b", []))):
             with self.assertRaisesRegex(ValueError, title):

@@ -121,6 +121,9 @@ CALLS: dict[str, tuple[Any, ...]] = {
     "peer_common": (H, S, c.POINTER(App)),
     "peer_serves": (H, U, NUMBER),
     "peer_identifiers": (H, NUMBER, NUMBER),
+    "peer_heard": (H,),
+    "peer_suspect": (H, NUMBER),
+    "peer_value": (H, U, B, S, SIZE),
     "peer_timer": (U, U, U, NUMBER),
     "peer_close": (H,),
 }

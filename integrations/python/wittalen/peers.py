@@ -16,7 +16,7 @@ from ._lib import App, Ip, Numbers, Owner, lib, octets, require, u32
 RELAY = 0xFFFFFFFF
 """The Application-ID of relays (RFC 6733 section 2.4)."""
 MOST_ROOM = 35_408
-"""The most bytes of a message of a peer."""
+"""The most bytes of a message of a peer, but an answer to an invalid request."""
 
 
 class Role(IntEnum):
@@ -65,7 +65,10 @@ Output = Union[bytes, Why]
 class Peer(Owner):
     """An end of a connection. Each event returns what is to be done, in order.
 
-    With `relays` the application RELAY stands for all. The Hop-by-Hop and End-to-End Identifiers begin at random (RFC 6733
+    With `relays` the application RELAY stands for all. With `answers` a request that is no valid message is answered with its
+    fault before the connection is closed. With `life` a watchdog without answer makes the connection `suspect`
+    before it closes it (RFC 3539 section 3.4.1). With `values` it keeps what the other end says of itself: `host` and the
+    properties after it. The Hop-by-Hop and End-to-End Identifiers begin at random (RFC 6733
     section 3), or at those of `identifiers`. Raises ValueError where a field is refused, and MemoryError."""
 
     _closing = "dia_peer_close"
@@ -82,6 +85,9 @@ class Peer(Owner):
         vendor: int = 0,
         state_id: Optional[int] = None,
         relays: bool = False,
+        answers: bool = False,
+        life: bool = False,
+        values: bool = False,
         identifiers: Optional[tuple[int, int]] = None,
     ):
         super().__init__()
@@ -95,7 +101,8 @@ class Peer(Owner):
         names = [part for word in words for part in (word, len(word))]
         lists = ((Ip * max(1, len(ips)))(*ips), len(ips), (App * max(1, len(apps)))(*apps), len(apps))
         fault = c.c_uint32()
-        status = lib.dia_peer_open_as(Role(role), bool(relays), *names, *lists, numbers, self._handle, fault)
+        manner = bool(relays) | bool(answers) << 1 | bool(life) << 2 | bool(values) << 3
+        status = lib.dia_peer_open_as(Role(role), manner, *names, *lists, numbers, self._handle, fault)
         if status == _lib.REFUSED:
             fields = ("", "host", "realm", "product", "addresses", "applications")
             raise ValueError(f"{fields[fault.value]}: refused")
@@ -155,6 +162,59 @@ class Peer(Owner):
         require(lib.dia_peer_identifiers(self._handle, hop, e2e))
         return hop.value, e2e.value
 
+    def heard(self) -> None:
+        """A message of an application came, which `receive` doesn't get: a sign of life."""
+        require(lib.dia_peer_heard(self._handle))
+
+    @property
+    def suspect(self) -> bool:
+        """Whether a watchdog waited at a `tick`, and nothing was heard since: new requests are better sent elsewhere."""
+        suspect = c.c_uint32()
+        require(lib.dia_peer_suspect(self._handle, suspect))
+        return bool(suspect.value)
+
+    @property
+    def host(self) -> Optional[str]:
+        """Origin-Host of the other end, out of its CER or its answer to one."""
+        return self._text(0)
+
+    @property
+    def realm(self) -> Optional[str]:
+        """Origin-Realm of the other end, as `host`."""
+        return self._text(1)
+
+    @property
+    def product(self) -> Optional[str]:
+        """Product-Name of the other end, as `host`."""
+        return self._text(2)
+
+    @property
+    def result(self) -> Optional[int]:
+        """The Result-Code of the answer to the CER of this end, also of a refusal."""
+        return self._number(3)
+
+    @property
+    def cause(self) -> Optional[int]:
+        """The Disconnect-Cause of the DPR of the other end."""
+        return self._number(4)
+
+    def _text(self, which: int) -> Optional[str]:
+        value = self._value(which)
+        return None if value is None else value.decode()
+
+    def _number(self, which: int) -> Optional[int]:
+        value = self._value(which)
+        return None if value is None else int.from_bytes(value, "big")
+
+    def _value(self, which: int) -> Optional[bytes]:
+        room, count = c.create_string_buffer(64), c.c_size_t()
+        while (status := lib.dia_peer_value(self._handle, which, room, len(room), count)) == _lib.NO_ROOM:
+            room = c.create_string_buffer(count.value)
+        if status == _lib.NONE:
+            return None
+        require(status)
+        return room.raw[: count.value]
+
     def _event(self, event: int, message: bytes = b"", cause: int = 0) -> list[Output]:
         data = octets(message)
         # what an event left whose call was interrupted
@@ -170,10 +230,12 @@ class Peer(Owner):
     def _take_outputs(self) -> None:
         output, count, why = c.c_uint32(), c.c_size_t(), c.c_uint32()
         room = c.create_string_buffer(MOST_ROOM)
-        while (status := lib.dia_peer_output(self._handle, output, room, MOST_ROOM, count, why)) == _lib.OK:
-            self._waiting.append(Why(why.value) if output.value else room.raw[: count.value])
-        if status != _lib.NONE:
+        while (status := lib.dia_peer_output(self._handle, output, room, len(room), count, why)) != _lib.NONE:
+            if status == _lib.NO_ROOM:
+                room = c.create_string_buffer(count.value)
+                continue
             require(status)
+            self._waiting.append(Why(why.value) if output.value else room.raw[: count.value])
 
 
 def _ip(address: str) -> Ip:

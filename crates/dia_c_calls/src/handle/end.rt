@@ -6,6 +6,7 @@ ghost use Rattle.dia_peer.specs.Outputs.{SentBytes, ClosedFor};
 ghost use Rattle.dia_c_calls.specs.Held.{MayBePeer, Takes, peer_in};
 ghost use Rattle.dia_c_calls.specs.PeerSteps.{HasStepped, LeavesRest, WantsRoom, plain_end};
 ghost use Rattle.dia_c_calls.specs.PeerTimers.{TakesIds};
+ghost use Rattle.dia_c_calls.specs.PeerValues.{Hears};
 
 use crate::held::Held;
 use crate::peer::{Given, Peer};
@@ -88,6 +89,24 @@ pub fn take_ids_in(held: &mut Held) -> (u32, u32)
 {
     match held {
         Held::Peer(peer) => peer.core.take_ids(),
+        Held::Dict(..) => unreachable!(),
+        Held::Text(_) => unreachable!(),
+        Held::Faults(_) => unreachable!(),
+        Held::Stream(_) => unreachable!(),
+        Held::Nothing => unreachable!(),
+    }
+}
+
+/// Reports to the end in a handle that a message of an application came.
+pub fn hear_in(held: &mut Held)
+    requires { ∥ MayBePeer (Some held.old) ∥₁ }
+    ensures heard { IfSome (peer_in (Some held.old)) (λ old. IfSome (peer_in (Some held.new)) (Hears old)) }
+    ensures was_peer { IsSome (peer_in (Some held.old)) }
+    ensures is_peer { IsSome (peer_in (Some held.new)) }
+    ensures only { ∥ MayBePeer (Some held.new) ∥₁ }
+{
+    match held {
+        Held::Peer(peer) => peer.core.heard(),
         Held::Dict(..) => unreachable!(),
         Held::Text(_) => unreachable!(),
         Held::Faults(_) => unreachable!(),

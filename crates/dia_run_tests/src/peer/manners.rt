@@ -65,6 +65,7 @@ fn core_of(rt: &(impl AllocGlobal + Abort), call: &str) -> Box<Core> {
 fn manner_of(words: &str) -> Manner {
     Manner {
         relays: has(words, "relays"),
+        answers: has(words, "answers"),
         life: has(words, "life"),
         values: has(words, "values"),
     }

@@ -97,6 +97,7 @@ fn one_manner_allows_the_application(rt: HostRuntime) {
         let config = config_of(&rt, "auth:4294967295", Role::Initiator);
         let manner = Manner {
             relays,
+            answers: false,
             life: false,
             values: false,
         };

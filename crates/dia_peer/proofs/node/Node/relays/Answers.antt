@@ -1,5 +1,5 @@
 use Rattle.std.proofs.Common.{Bool, map, ap, ◌∙◌, ◌&&◌, sym}
-use Rattle.dia_peer.specs.Core.{pair_of, pairs_of, is_relay}
+use Rattle.dia_peer.specs.Core.{pair_of, is_relay}
 use Rattle.dia_peer.proofs.Commons.{raw_relay, raw_relay_is, sorted_relay}
 use Rattle.dia_peer.proofs.KeptApplications.{in_order}
 use Rattle.dia_peer.proofs.node.Node.relays.Goals as goal
