@@ -120,9 +120,9 @@ counts_are : (list : List PlainEntry) (recorded apart : List Row) (stale : List 
     → map plain_entry stale_ones.items ≡ stale → counts_in seen f.causes stale_ones ≡ counts_of list recorded stale
 counts_are list recorded apart stale seen is unused stale_ones f lines_are accepted_are causes_are stale_are = λ i. record {
   lines = lines_are i;
-  causes = (sym (length-map plain_recorded f.causes.items) ∙ ap length causes_are) i;
+  causes = (sym (length-map f.causes.items plain_recorded) ∙ ap length causes_are) i;
   accepted = accepted_are i;
-  stale = (sym (length-map plain_entry stale_ones.items) ∙ ap length stale_are) i;
+  stale = (sym (length-map stale_ones.items plain_entry) ∙ ap length stale_are) i;
 }
 
 module _ (w : Writing) (asked : Asked) (input : Input) (a b : Dictionary) (list : List PlainEntry) (is_list : IsListText input list) where
@@ -199,6 +199,7 @@ module _ (w : Writing) (asked : Asked) (input : Input) (a b : Dictionary) (list 
 
       listed_so : (causes : List ℕ) → IsTextOfCauses w seen causes → (is : Findings) (f : Finds seen unused_ones stale_ones is) (exit : Exit) → exit ≡ exit_of seen.lines (length (fails_of asked stale_ones))
           → IsListed w asked input a b (whole_text causes (counts_in seen f.causes stale_ones)) exit is
+      unfolding finds_report
       listed_so causes written_so is f exit ends =
           let judged = all.are_seen.judged in
           let report = finds_report is f in

@@ -1,25 +1,21 @@
 -- Lines that are known one after another, and their texts.
-use Rattle.std.proofs.Common.{◌≡◌, ℕ, ◌+◌, ◌<◌, ◌^◌, Bool, true, false, cond, List, [], ◌∷◌, ◌++◌, Option, Some, None, drop, get_or, length, map, take, refl, sym, ap, subst, ◌∙◌, append_assoc, string_bytes, arith}
+use Rattle.std.proofs.Common.{◌≡◌, ℕ, ◌+◌, ◌<◌, ◌^◌, Bool, true, false, cond, List, [], ◌∷◌, ◌++◌, Option, Some, None, length, map, refl, sym, ap, subst, ◌∙◌, arith}
 use Rattle.std.specs.Prelude.{◌||◌, not}
 use Rattle.std.specs.List.{list_any}
 use Rattle.std.proofs.lemmas.Grind.{flat_map-append}
-use Rattle.std.proofs.lemmas.List.{append-nil, length-append, map-append, take-append-drop, take_more}
+use Rattle.std.proofs.lemmas.List.{append-nil, length-append}
 use Rattle.std.proofs.lemmas.List.Elements.{filter-append}
 use Rattle.dia_accepted.specs.declared.counting.Causes.{Causes}
-use Rattle.dia_accepted.specs.declared.recorded.Recorded.{Recorded}
-use Rattle.dia_accepted.specs.Accepted.{PlainEntry, PlainRecorded, accepts, plain_recorded}
+use Rattle.dia_accepted.specs.Accepted.{PlainEntry, accepts}
 use Rattle.hex.specs.Hex.{encode_lower}
 use Rattle.dia_breaking_sites.specs.Sent.{AreBytes}
 use Rattle.dia_breaking.specs.declared.line.Standing.{Standing}
 use Rattle.dia_breaking.specs.declared.line.Standing.TheVariants.{Confirmed, Unchecked, Undecided}
-use Rattle.dia_io.specs.Writing.{AppendsFront}
-use Rattle.dia_run.specs.Texts.{line}
 use Rattle.dia_upgrades.specs.declared.asked.Asked.{Asked}
 use Rattle.dia_upgrades.specs.declared.seen.Seen.{Seen}
 use Rattle.dia_upgrades.specs.Outcome.{accepted_of, counted}
 use Rattle.dia_upgrades.specs.Recorded.{IsAfter, has_message, written}
 use Rattle.dia_upgrades.specs.UnderWay.{AreJudged, Sees, SeesApart, firsts_in, is_any, lines_after, plain_first, text_shown}
-use Rattle.dia_upgrades.proofs.Puts.{front_of_more}
 use Rattle.dia_upgrades.proofs.Rows.{seen_after, seen_before}
 use Rattle.dia_upgrades.specs.Rows.{AreCauses, HasSeen, Row, digits_line, is_accepted, is_command, left_of}
 use Rattle.dia_upgrades.specs.Writing.{Writing, line_in}

@@ -1,6 +1,6 @@
 -- How `breaking` ends.
-use Rattle.std.proofs.Common.{◌≡◌, ◌≢◌, ℕ, false, true, List, [], ◌∷◌, ◌++◌, length, Some, None, refl, sym, ap, subst, ◌∙◌, arith}
-use Rattle.std.specs.Prelude.{◌↔◌, Bool, Contains, IfSome, IsNone, Option}
+use Rattle.std.proofs.Common.{◌≡◌, ℕ, false, true, List, [], ◌++◌, length, Some, None, refl, sym, ap, subst, ◌∙◌, arith}
+use Rattle.std.specs.Prelude.{◌↔◌, Contains, IfSome, IsNone, Option}
 use Rattle.std.specs.Global.{Vec}
 use Rattle.std.specs.Str.{IsUtf8}
 use Rattle.std.proofs.lemmas.List.{append-nil}
@@ -28,7 +28,7 @@ use Rattle.dia_upgrades.specs.declared.list.BadList.TheVariants as lists
 use Rattle.dia_upgrades.specs.declared.reporting.Findings.{Findings}
 use Rattle.dia_upgrades.specs.declared.reporting.Findings.TheVariants as founds
 use Rattle.dia_upgrades.specs.Asking.{names_of}
-use Rattle.dia_upgrades.specs.InWords.{in_words, nothing_else_breaks, nothing_else_differs, nothing_for}
+use Rattle.dia_upgrades.specs.InWords.{in_words, nothing_for}
 use Rattle.dia_upgrades.specs.Lists.{IsListText, IsNoListText}
 use Rattle.dia_upgrades.specs.Outcome.{AreAllRecorded, AreLeft, AreRead, CanAsk, CannotAnswer, HasLines, HasNoLines, IsAnswerable, IsBreakingOutcome, IsListed, NoneIsStale, RecordsFound, counted}
 use Rattle.dia_upgrades.specs.Stale.{AreStale, failing}

@@ -1,5 +1,5 @@
 -- An answer in words.
-use Rattle.std.specs.Prelude.{ℕ, Bool, false, true, if◌then◌else◌, List, [], ◌∷◌, ◌++◌, codes}
+use Rattle.std.specs.Prelude.{ℕ, Bool, if◌then◌else◌, List, [], ◌++◌, codes}
 use Rattle.dia_accepted.specs.Accepted.{PlainEntry}
 use Rattle.dia_run.specs.Texts.{line}
 use Rattle.dia_upgrades.specs.Lists.{list_line}

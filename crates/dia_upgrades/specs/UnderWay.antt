@@ -1,5 +1,5 @@
 -- Lines that are found one after another: what is known of them, and what is written.
-use Rattle.std.specs.Prelude.{◌≡◌, ℕ, ◌⊎◌, ◌+◌, ◌<◌, ◌^◌, ◌==◌, ◌&&◌, Bool, true, false, if◌then◌else◌, List, [], ◌∷◌, ◌++◌, length, map, string_bytes, Option, Some, None, Result, Ok, Err}
+use Rattle.std.specs.Prelude.{◌≡◌, ℕ, ◌+◌, ◌<◌, ◌^◌, ◌==◌, ◌&&◌, Bool, true, false, if◌then◌else◌, List, [], ◌∷◌, ◌++◌, length, map, string_bytes, Option, Result, Ok, Err}
 use Rattle.std.specs.Global.{Global, Vec}
 use Rattle.std.specs.declared.string.String.{String}
 use Rattle.std.specs.List.{list_any}
@@ -15,7 +15,6 @@ use Rattle.dia_io.specs.declared.RunFault.{RunFault}
 use Rattle.dia_io.specs.declared.RunFault.TheVariants.{Device, NoMemory}
 use Rattle.dia_io.specs.Writing.{AppendsFront}
 use Rattle.dia_dict.specs.declared.IndexedBook.{IndexedBook}
-use Rattle.dia_run.specs.Texts.{line}
 use Rattle.dia_accepted.specs.Accepted.{PlainEntry, PlainRecorded, plain_entry, plain_recorded}
 use Rattle.dia_accepted.specs.declared.list.Entry.{Entry}
 use Rattle.dia_accepted.specs.declared.recorded.Recorded.{Recorded}

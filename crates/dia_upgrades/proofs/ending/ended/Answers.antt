@@ -7,7 +7,7 @@ use Rattle.dia_io.specs.Writing.{AppendsFront}
 use Rattle.dia_upgrades.specs.Stale.{failing}
 use Rattle.dia_upgrades.specs.declared.reporting.Findings.{Findings}
 use Rattle.dia_upgrades.specs.declared.reporting.Findings.TheVariants.{Listed}
-use Rattle.dia_upgrades.specs.UnderWay.{Finds, end_text, exit_of, fails_of}
+use Rattle.dia_upgrades.specs.UnderWay.{Finds, end_text, exit_of}
 use Rattle.dia_upgrades.proofs.ending.ended.Goals as goal
 
 pub returns-in_err-put_all-clause-ends : goal.returns-in_err-put_all-clause-ends
@@ -45,7 +45,7 @@ returns-clause-ends g c =
     let fails = c.failing-fails.ensures ∙ ap (λ es. failing asked.stale (map plain_entry es)) c.as_slice.ensures.value in
     let (causes, are_causes, text_is) = c.in_ok-text.ensures in
     let whole = c.as_bytes.ensures.value ∙ text_is ∙ (λ i. end_text w asked.meaning seen.is_some causes (c.counts_in-counts.ensures i) (fails i)) in
-    let count = c.len.ensures ∙ sym (length-map plain_entry c.failing-fails.result.now) ∙ ap length fails in (
+    let count = sym (length-map c.failing-fails.result.now plain_entry) ∙ ap length fails in (
       causes,
       are_causes,
       finds,

@@ -1,4 +1,4 @@
-use Rattle.std.proofs.Common.{ap, List, ℕ, ◌++◌, ◌∙◌}
+use Rattle.std.proofs.Common.{ap, ◌++◌, ◌∙◌}
 use Rattle.std.proofs.lemmas.Result.{on_ok_weaker}
 use Rattle.std.specs.Prelude.{string_bytes}
 use Rattle.dia_accepted.specs.Causes.{once_words}

@@ -16,8 +16,13 @@ compared-requires-clause-places g c =
     let same = rw c.in-Ok.is at c.in_ok-commands.ensures.exact in
     rw c.as_slice.ensures.value (subst (All (λ (place : ℕ). place < length da.commands)) (sym same) (asked_within da (names_of c.args.asked)))
 
-pub returns-in_ok-text-then-has_no_commands-clause-answers : goal.returns-in_ok-text-then-has_no_commands-clause-answers
-returns-in_ok-text-then-has_no_commands-clause-answers g c = λ input is_list.
+pub returns-in_err-text-clause-answers : goal.returns-in_err-text-clause-answers
+returns-in_err-text-clause-answers g c = λ input is_list.
+    let p = err_from_is_err_and c.from_residual.result c.from_residual.ensures.1 in
+    rw (p.1, p.2) (none_answered (g.W.LineWriter.writes c.args.writer.now) c.args.asked input (g.A.Book.meaning c.args.a.now) (g.B.Book.meaning c.args.b.now) (g.S.Sink.written c.args.sink.now))
+
+pub returns-then-has_no_commands-clause-answers : goal.returns-then-has_no_commands-clause-answers
+returns-then-has_no_commands-clause-answers g c = λ input is_list.
     let da = g.A.Book.meaning c.args.a.now in
     let none = no_items da.commands (eqb-true (length da.commands) 0 (sym c.has_no_commands.ensures ∙ c.if-has_no_commands.true)) in
     refusal_answered (g.W.LineWriter.writes c.args.writer.now) c.args.asked input da (g.B.Book.meaning c.args.b.now) _ _ c.as_str.result.now NoCommands c.refused.result
@@ -41,6 +46,6 @@ returns-in_ok-text-in-Err-clause-answers g c = λ input is_list.
     let da = g.A.Book.meaning c.args.a.now in
     let first = rw c.in-Err.is at c.in_ok-commands.ensures.unknown in
     let some = some_items da.commands (not_zero (length da.commands) (sym c.has_no_commands.ensures ∙ c.if-has_no_commands.false)) in
-    refusal_answered (g.W.LineWriter.writes c.args.writer.now) c.args.asked input da (g.B.Book.meaning c.args.b.now) _ _ c.as_str.result.now NoCommand c.refused-in-Err.result
-    (no_command (map plain_entry c.args.list.now) c.in-Err.name.now is_list some first (c.as_str.ensures.value ∙ c.in_ok-text-in-Err.ensures, refl) refl) c.refused-in-Err.ensures.put c.refused-in-Err.ensures.exit
+    refusal_answered (g.W.LineWriter.writes c.args.writer.now) c.args.asked input da (g.B.Book.meaning c.args.b.now) _ _ c.as_str-in-Err.result.now NoCommand c.refused-in-Err.result
+    (no_command (map plain_entry c.args.list.now) c.in-Err.name.now is_list some first (c.as_str-in-Err.ensures.value ∙ c.in_ok-text-in-Err.ensures, refl) refl) c.refused-in-Err.ensures.put c.refused-in-Err.ensures.exit
     c.refused-in-Err.ensures.found c.refused-in-Err.ensures.fault c.refused-in-Err.ensures.front
