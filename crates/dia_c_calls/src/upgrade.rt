@@ -22,7 +22,7 @@ use crate::wanted::Wanted;
 use dia_book::Book;
 use dia_io::{Exit, Input, RunFault};
 use dia_upgrades::{
-    Asked, BadList, Findings, InWords, BooksAnswer, MAX_LIST, Stale, breaking_of, named,
+    Asked, BadList, BooksAnswer, Findings, InWords, MAX_LIST, Stale, breaking_of, named,
 };
 use std::alloc::{AllocError, Global};
 

@@ -11,7 +11,7 @@ use dia_explain_places::InputTexts;
 use dia_explain_upgrades::explain_upgrade;
 use dia_io::{Exit, Inputs, RunFault, Sink, ToWriter};
 use dia_tasks::{Manner, texts_of};
-use dia_upgrades::{Asked, Report, BreakingAnswer, Stale, breaking};
+use dia_upgrades::{Asked, BreakingAnswer, Report, Stale, breaking};
 use std::alloc::Global;
 use std::io::Write;
 

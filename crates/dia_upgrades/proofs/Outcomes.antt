@@ -142,8 +142,19 @@ module _ (asked : Asked) (inputs : Inputs) (text : List ℕ) (exit : Exit) where
 
   -- a no says which lines are left
   pub no_is_unsafe : IsBreakingOutcome asked inputs text exit → exit ≡ No → IsUnsafeUpgrade asked inputs text
-  no_is_unsafe (ended a b is_a is_b (is, lines list recorded apart stale can left is_text is_exit)) is_no = (a, b, list, recorded, apart, stale, read a b list is_a is_b can.list_is can.can_ask, can.all_recorded, can.are_stale, left,
-      is_text ∙ ap (λ (x : List ℕ). answer_written in_words asked (left_of list recorded) ++ x) (append-nil (stale_text in_words (failing asked.stale stale))))
+  no_is_unsafe (ended a b is_a is_b (is, lines list recorded apart stale can left is_text is_exit)) is_no = (
+    a,
+    b,
+    list,
+    recorded,
+    apart,
+    stale,
+    read a b list is_a is_b can.list_is can.can_ask,
+    can.all_recorded,
+    can.are_stale,
+    left,
+    is_text ∙ ap (λ (x : List ℕ). answer_written in_words asked (left_of list recorded) ++ x) (append-nil (stale_text in_words (failing asked.stale stale))),
+  )
   no_is_unsafe (ended a b is_a is_b (is, nothing list apart stale can breaks differs none is_text is_exit)) is_no = absurd (let e : Yes ≡ No = sym is_exit ∙ is_no in cc)
   no_is_unsafe (ended a b is_a is_b (is, nothing_else list recorded apart stale can left some breaks none is_text is_exit)) is_no = absurd (let e : Yes ≡ No = sym is_exit ∙ is_no in cc)
   no_is_unsafe (ended a b is_a is_b (is, bad_list bad none refuses what)) is_no = absurd (let e : Bad ≡ No = sym refuses.1 ∙ is_no in cc)

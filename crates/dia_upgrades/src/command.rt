@@ -13,7 +13,7 @@ ghost use Rattle.dia_upgrades.specs.UnderWay.{Reports};
 
 use crate::asked::Asked;
 use crate::judging::breaking_of;
-use crate::reporting::{BooksAnswer, Report, BreakingAnswer};
+use crate::reporting::{BooksAnswer, BreakingAnswer, Report};
 use crate::words::InWords;
 use dia_dict::{Book, IndexedBook};
 use dia_io::{Exit, Inputs, RunFault, Sink, put_all};

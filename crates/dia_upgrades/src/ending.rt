@@ -13,7 +13,7 @@ ghost use Rattle.dia_upgrades.specs.UnderWay.{Ends, IsTextOfCauses, counts_in, e
 ghost use Rattle.dia_upgrades.specs.Writing.{Adds, cause_in, stale_text};
 
 use crate::asked::{Asked, Stale};
-use crate::reporting::{Counts, Findings, BooksAnswer};
+use crate::reporting::{BooksAnswer, Counts, Findings};
 use crate::seen::{First, Seen};
 use crate::shown::digits_in;
 use crate::writer::LineWriter;
@@ -70,7 +70,16 @@ fn end_text<W: LineWriter>(
     let lines = counts.lines;
     let failing = fails.len();
     let mut text = String::new(alloc);
-    push_end(alloc, &mut text, writer, meaning, lines, seen.is_some, causes, failing)?;
+    push_end(
+        alloc,
+        &mut text,
+        writer,
+        meaning,
+        lines,
+        seen.is_some,
+        causes,
+        failing,
+    )?;
     push_stale(alloc, &mut text, writer, fails)?;
     writer.write_counts(alloc, &mut text, counts)?;
     Ok(text)
@@ -196,7 +205,11 @@ fn failing(stale: Stale, entries: &[Entry]) -> &[Entry]
 }
 
 /// Writes the text of a refusal.
-pub(crate) fn refused<S: Sink>(sink: &mut S, text: &str, found: Findings) -> Result<BooksAnswer, RunFault>
+pub(crate) fn refused<S: Sink>(
+    sink: &mut S,
+    text: &str,
+    found: Findings,
+) -> Result<BooksAnswer, RunFault>
     requires { ¬ IsTrue (S.has_failed sink.old) }
     ensures put { OnOk result (Appends (S.written sink.old) (S.written sink.new) text.now) }
     ensures exit { IfOk result (λ listed. listed.exit ≡ Exit.Bad) }

@@ -20,7 +20,7 @@ use crate::ending::{ended, refused};
 use crate::lines::put_lines;
 use crate::list::{BadList, read_accepted};
 use crate::naming::named;
-use crate::reporting::{Findings, BooksAnswer};
+use crate::reporting::{BooksAnswer, Findings};
 use crate::stale::stale_of;
 use crate::writer::LineWriter;
 use dia_accepted::Entry;
@@ -101,16 +101,7 @@ fn listed<A: Book, B: Book, S: Sink, W: LineWriter>(
         return refused(sink, text.as_str(), Findings::NoCommands);
     }
     match named(alloc, a, asked.names)? {
-        Ok(commands) => compared(
-            alloc,
-            asked,
-            writer,
-            list,
-            a,
-            b,
-            commands.as_slice(),
-            sink,
-        ),
+        Ok(commands) => compared(alloc, asked, writer, list, a, b, commands.as_slice(), sink),
         Err(name) => {
             let text = no_command_text(alloc, writer, name)?;
             refused(sink, text.as_str(), Findings::NoCommand)
@@ -143,9 +134,7 @@ fn compared<A: Book, B: Book, S: Sink, W: LineWriter>(
     ensures device { (result ≡ Err Device) ↔ IsTrue (S.has_failed sink.new) }
 {
     let upgrade = Upgrade::new(alloc, a, b, asked.sends, asked.unknown)?;
-    compared_by(
-        alloc, asked, writer, list, a, b, &upgrade, commands, sink,
-    )
+    compared_by(alloc, asked, writer, list, a, b, &upgrade, commands, sink)
 }
 
 /// The same, by what is known of both.

@@ -28,6 +28,6 @@ pub use judging::breaking_of;
 pub use laws::{confirmed_texts_break, message_texts_are_one};
 pub use list::BadList;
 pub use naming::named;
-pub use reporting::{Counts, Findings, BooksAnswer, Report, BreakingAnswer};
+pub use reporting::{BooksAnswer, BreakingAnswer, Counts, Findings, Report};
 pub use words::InWords;
 pub use writer::LineWriter;

@@ -56,12 +56,7 @@ pub trait LineWriter {
         ensures { OnOk result (Adds text.old text.new ((writes self.now).of_nothing meaning is_some)) };
 
     /// Adds a stale entry of the list of accepted lines.
-    fn write_stale(
-        &self,
-        alloc: Global,
-        text: &mut String,
-        entry: &Entry,
-    ) -> Result<(), AllocError>
+    fn write_stale(&self, alloc: Global, text: &mut String, entry: &Entry) -> Result<(), AllocError>
         ensures { OnOk result (Adds text.old text.new ((writes self.now).of_stale (plain_entry entry.now))) };
 
     /// Adds how much there is of all.

@@ -17,7 +17,7 @@ use dia_io::{Exit, Input, Inputs, RunFault, Sink, put_all};
 use dia_refused_json::bad_input_line;
 use dia_report::{BadInput, BothBooks, Refused};
 use dia_run::read_dictionary;
-use dia_upgrades::{Asked, BooksAnswer, Report, BreakingAnswer};
+use dia_upgrades::{Asked, BooksAnswer, BreakingAnswer, Report};
 use std::alloc::Global;
 
 /// Writes what `breaking` of dia_upgrades finds, as JSON: an object for each line, or with `once` for each cause, and one with

@@ -50,7 +50,12 @@ pub(crate) fn push_field(
 }
 
 /// Adds a string.
-pub(crate) fn push_text(alloc: Global, out: &mut String, name: &str, text: &str) -> Result<(), AllocError>
+pub(crate) fn push_text(
+    alloc: Global,
+    out: &mut String,
+    name: &str,
+    text: &str,
+) -> Result<(), AllocError>
     ensures { OnOk result (Adds out.old out.new (text_field name.now text.now)) }
 {
     let value = quoted(alloc, text)?;

@@ -17,5 +17,5 @@ returns g c =
       λ forgets recorded command visits are. c.as_str-causes.ensures.value ∙ written forgets recorded command visits are,
       three_added (lines_end w c.args.meaning c.args.counts.lines c.args.seen.now.is_some causes (length c.args.fails.now)) (stale_text w fails) (w.of_counts c.args.counts) _ _ _ _
           c.new-text.ensures.bytes c.in_ok-push_end.ensures c.in_ok-push_stale.ensures c.in_ok-write_counts.ensures
-      ∙ ap (λ (n : ℕ). lines_end w c.args.meaning c.args.counts.lines c.args.seen.now.is_some causes n ++ (stale_text w fails ++ w.of_counts c.args.counts)) failing,
+          ∙ ap (λ (n : ℕ). lines_end w c.args.meaning c.args.counts.lines c.args.seen.now.is_some causes n ++ (stale_text w fails ++ w.of_counts c.args.counts)) failing,
     )
