@@ -57,6 +57,7 @@ module _ (meaning : IndexedBook → Dictionary) (asked : Asked) (inputs : Inputs
 
     pub listed_reports : (listed : BooksAnswer) (reported : BreakingAnswer) → reported.exit ≡ listed.exit → reported.report ≡ reports.Read books listed.found → Answers w asked inputs.table a b old new (Ok listed)
         → Reports meaning asked inputs old new (Ok reported)
+    unfolding listed_so
     listed_reports listed reported exit report (text, is, put) = (
       text,
       subst (IsBreakingJson asked inputs text) (sym exit) (inl (a, b, are_read.0.1, are_read.1.1, (listed.found, listed_so text listed.exit listed.found is))),
