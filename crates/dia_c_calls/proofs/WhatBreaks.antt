@@ -22,13 +22,13 @@ use Rattle.dia_io.specs.declared.Input.{Input}
 use Rattle.dia_io.specs.declared.Exit.{Exit}
 use Rattle.dia_io.specs.declared.Exit.TheVariants.{Yes, No, Bad}
 use Rattle.dia_upgrades.specs.declared.Asked.{Asked}
-use Rattle.dia_upgrades.specs.declared.Form.TheVariants.{Text}
 use Rattle.dia_upgrades.specs.declared.Stale.TheVariants.{Ignored}
 use Rattle.dia_accepted.specs.declared.Entry.{Entry}
 use Rattle.dia_upgrades.specs.declared.BadList.{BadList}
-use Rattle.dia_upgrades.specs.declared.Found.{Found}
-use Rattle.dia_upgrades.specs.declared.Found.TheVariants as found
+use Rattle.dia_upgrades.specs.declared.Findings.{Findings}
+use Rattle.dia_upgrades.specs.declared.Findings.TheVariants as found
 use Rattle.dia_upgrades.specs.Asking.{AreCommands, names_of}
+use Rattle.dia_upgrades.specs.InWords.{in_words}
 use Rattle.dia_upgrades.specs.Lists.{IsNoListText}
 use Rattle.dia_upgrades.specs.Outcome.{IsListed, nothing, nothing_else, lines as recorded_lines, bad_list, no_commands, no_command}
 use Rattle.dia_c_calls.specs.declared.opening.Problem.{Problem}
@@ -58,8 +58,8 @@ yes_of Yes e = refl
 yes_of No e = absurd (let z : 0 ≡ 1 = e in omega (arith, z))
 yes_of Bad e = absurd (let z : 0 ≡ 1 = e in omega (arith, z))
 
-module _ (asked : Asked) (input : Input) (a b : Dictionary) (text : List ℕ) (exit : Exit) (is : Found) where
-  says_safe : IsListed asked input a b text exit is → exit ≡ Yes → IsSafe asked input a b
+module _ (asked : Asked) (input : Input) (a b : Dictionary) (text : List ℕ) (exit : Exit) (is : Findings) where
+  says_safe : IsListed in_words asked input a b text exit is → exit ≡ Yes → IsSafe asked input a b
   says_safe (nothing list apart stale can breaks differs none is_text is_exit) is_yes = inl (breaks, differs)
   says_safe (nothing_else list recorded apart stale can left some breaks none is_text is_exit) is_yes = inr (list, can.list_is, breaks)
   says_safe (recorded_lines list recorded apart stale can left is_text is_exit) is_yes = absurd (let e : No ≡ Yes = sym is_exit ∙ is_yes in cc)
@@ -68,7 +68,7 @@ module _ (asked : Asked) (input : Input) (a b : Dictionary) (text : List ℕ) (e
   says_safe (no_command list name is_list some first refuses what) is_yes = absurd (let e : Bad ≡ Yes = sym refuses.1 ∙ is_yes in cc)
 
   module _ (unused old : Vec Entry) (n accepted : ℕ) (causes meanings : Vec Recorded) (has : is ≡ found.Listed unused old n accepted causes meanings) where
-    answers : IsListed asked input a b text exit is → exit ≢ Bad
+    answers : IsListed in_words asked input a b text exit is → exit ≢ Bad
     answers (nothing list apart stale can breaks differs none is_text is_exit) = λ bad. (let e : Yes ≡ Bad = sym is_exit ∙ bad in cc)
     answers (nothing_else list recorded apart stale can left some breaks none is_text is_exit) = λ bad. (let e : Yes ≡ Bad = sym is_exit ∙ bad in cc)
     answers (recorded_lines list recorded apart stale can left is_text is_exit) = λ bad. (let e : No ≡ Bad = sym is_exit ∙ bad in cc)
@@ -76,7 +76,7 @@ module _ (asked : Asked) (input : Input) (a b : Dictionary) (text : List ℕ) (e
     answers (no_commands list is_list none refuses what) = absurd (let e : found.NoCommands ≡ found.Listed unused old n accepted causes meanings = sym what ∙ has in cc)
     answers (no_command list name is_list some first refuses what) = absurd (let e : found.NoCommand ≡ found.Listed unused old n accepted causes meanings = sym what ∙ has in cc)
 
-    pub recorded : (answer : Option (List ℕ)) (safe : ℕ) → answer ≡ Some text → safe ≡ holds_of exit → IsListed asked input a b text exit is
+    pub recorded : (answer : Option (List ℕ)) (safe : ℕ) → answer ≡ Some text → safe ≡ holds_of exit → IsListed in_words asked input a b text exit is
         → IfSome answer (λ t. IsRecordedOf asked input a b t safe)
     recorded answer safe in_text ends listed = subst (λ (o : Option (List ℕ)). IfSome o (λ t. IsRecordedOf asked input a b t safe)) (sym in_text) (record {
       exit = exit;
@@ -91,7 +91,7 @@ module _ (asked : Asked) (input : Input) (a b : Dictionary) (text : List ℕ) (e
   same_bad : (bad other : BadList) → found.NoList bad ≡ found.NoList other → bad ≡ other
   same_bad bad other e = cc
 
-  pub no_list : (bad : BadList) (p : Problem) → is ≡ found.NoList bad → p ≡ list_problem bad → IsListed asked input a b text exit is → IsUnlisted a input (names_of asked) p
+  pub no_list : (bad : BadList) (p : Problem) → is ≡ found.NoList bad → p ≡ list_problem bad → IsListed in_words asked input a b text exit is → IsUnlisted a input (names_of asked) p
   no_list bad p has recorded (nothing list apart stale can breaks differs none is_text is_exit) = absurd (let t = can.records in let e : found.NoList bad ≡ found.Listed t.unused t.stale_ones t.lines t.accepted t.causes t.meanings = sym has ∙ t.is_listed in cc)
   no_list bad p has recorded (nothing_else list recorded' apart stale can left some breaks none is_text is_exit) = absurd (let t = can.records in let e : found.NoList bad ≡ found.Listed t.unused t.stale_ones t.lines t.accepted t.causes t.meanings = sym has ∙ t.is_listed in cc)
   no_list bad p has recorded (recorded_lines list recorded' apart stale can left is_text is_exit) = absurd (let t = can.records in let e : found.NoList bad ≡ found.Listed t.unused t.stale_ones t.lines t.accepted t.causes t.meanings = sym has ∙ t.is_listed in cc)
@@ -99,7 +99,7 @@ module _ (asked : Asked) (input : Input) (a b : Dictionary) (text : List ℕ) (e
   no_list bad p has recorded (no_commands list is_list none refuses what) = absurd (let e : found.NoList bad ≡ found.NoCommands = sym has ∙ what in cc)
   no_list bad p has recorded (no_command list name is_list some first refuses what) = absurd (let e : found.NoList bad ≡ found.NoCommand = sym has ∙ what in cc)
 
-  pub unnamed : is ≡ found.NoCommand → IsListed asked input a b text exit is → (name : List ℕ) × IsFirstUnknown a (names_of asked) name
+  pub unnamed : is ≡ found.NoCommand → IsListed in_words asked input a b text exit is → (name : List ℕ) × IsFirstUnknown a (names_of asked) name
   unnamed has (nothing list apart stale can breaks differs none is_text is_exit) = absurd (let t = can.records in let e : found.NoCommand ≡ found.Listed t.unused t.stale_ones t.lines t.accepted t.causes t.meanings = sym has ∙ t.is_listed in cc)
   unnamed has (nothing_else list recorded' apart stale can left some breaks none is_text is_exit) = absurd (let t = can.records in let e : found.NoCommand ≡ found.Listed t.unused t.stale_ones t.lines t.accepted t.causes t.meanings = sym has ∙ t.is_listed in cc)
   unnamed has (recorded_lines list recorded' apart stale can left is_text is_exit) = absurd (let t = can.records in let e : found.NoCommand ≡ found.Listed t.unused t.stale_ones t.lines t.accepted t.causes t.meanings = sym has ∙ t.is_listed in cc)
@@ -174,9 +174,9 @@ module _ (d : Dictionary) (xs : List (String Global)) (name : List ℕ) (first :
 -- ---- what is asked
 
 pub is_asked : (w : Wanted) (commands words : List ℕ) (given : Bor (List (String Global))) (names : List (String Global)) → given.now ≡ names → map text_of names ≡ lines words → words ≡ commands
-    → IsAskedBy w commands (record { sends = w.sends; unknown = w.unknown; messages = w.messages; once = w.once; meaning = w.meaning; stale = Ignored; form = Text; names = given })
+    → IsAskedBy w commands (record { sends = w.sends; unknown = w.unknown; messages = w.messages; once = w.once; meaning = w.meaning; stale = Ignored; names = given })
 is_asked w commands words given names has is same =
-    record { sends = refl; unknown = refl; messages = refl; once = refl; meaning = refl; stale = refl; form = refl; names = ap (map text_of) has ∙ is ∙ ap lines same }
+    record { sends = refl; unknown = refl; messages = refl; once = refl; meaning = refl; stale = refl; names = ap (map text_of) has ∙ is ∙ ap lines same }
 
 pub same_problem : (x p : Problem) → refused.Bad x ≡ refused.Bad p → p ≡ x
 same_problem x p e = cc

@@ -12,11 +12,11 @@ use Rattle.dia_io.specs.declared.Exit.{Exit}
 use Rattle.dia_io.specs.declared.Exit.TheVariants.{Bad}
 use Rattle.dia_io.specs.Inputs.{IsWhole}
 use Rattle.dia_upgrades.specs.declared.Asked.{Asked}
-use Rattle.dia_upgrades.specs.declared.Form.TheVariants.{Text}
 use Rattle.dia_upgrades.specs.declared.Stale.TheVariants.{Ignored}
 use Rattle.dia_upgrades.specs.declared.BadList.{BadList}
 use Rattle.dia_upgrades.specs.declared.BadList.TheVariants as list
 use Rattle.dia_upgrades.specs.Asking.{names_of}
+use Rattle.dia_upgrades.specs.InWords.{in_words}
 use Rattle.dia_upgrades.specs.Lists.{IsListText, IsNoListText}
 use Rattle.dia_upgrades.specs.Outcome.{IsAnyListed, NothingBreaks, NothingDiffers, NothingElseBreaks}
 use Rattle.dia_c_calls.specs.declared.opening.Problem.{Problem}
@@ -51,7 +51,7 @@ wanted_of sends unknown options = record {
   meaning = has_option options 4;
 }
 
--- this is asked of the command: what is wanted, in words, of the commands whose names are the lines of the text. No entry of the list is stale for it
+-- this is asked of the command: what is wanted, of the commands whose names are the lines of the text. No entry of the list is stale for it
 pub record IsAskedBy (wanted : Wanted) (commands : List ℕ) (asked : Asked) : Type 0 where
   pub sends : asked.sends ≡ wanted.sends
   pub unknown : asked.unknown ≡ wanted.unknown
@@ -59,7 +59,6 @@ pub record IsAskedBy (wanted : Wanted) (commands : List ℕ) (asked : Asked) : T
   pub once : asked.once ≡ wanted.once
   pub meaning : asked.meaning ≡ wanted.meaning
   pub stale : asked.stale ≡ Ignored
-  pub form : asked.form ≡ Text
   pub names : names_of asked ≡ lines commands
 
 -- ---- what is answered
@@ -70,10 +69,10 @@ abbrev pub IsSafe : Asked → Input → Dictionary → Dictionary → Type 0
 IsSafe asked input a b = (NothingBreaks asked a b × NothingDiffers asked a b)
     ⊎ ((list : List PlainEntry) × IsListText input list × NothingElseBreaks asked list a b)
 
--- it writes this text, which says what breaks, or that nothing does: then it is safe
+-- it writes this text, in words, which says what breaks, or that nothing does: then it is safe
 pub record IsRecordedOf (asked : Asked) (input : Input) (a b : Dictionary) (text : List ℕ) (safe : ℕ) : Type 0 where
   pub exit : Exit
-  pub listed : IsAnyListed asked input a b text exit
+  pub listed : IsAnyListed in_words asked input a b text exit
   pub answered : exit ≢ Bad
   pub safe_is : safe ≡ holds_of exit
   pub says : safe ≡ 1 → IsSafe asked input a b

@@ -8,6 +8,7 @@ ghost use Rattle.dia_accepted.specs.Accepted.{max_list};
 ghost use Rattle.dia_inclusion.specs.Proposed.{IsFirstUnknown};
 ghost use Rattle.dia_io.specs.Inputs.{IsWhole};
 ghost use Rattle.dia_upgrades.specs.Asking.{names_of};
+ghost use Rattle.dia_upgrades.specs.InWords.{in_words};
 ghost use Rattle.dia_upgrades.specs.Outcome.{IsListed};
 ghost use Rattle.dia_c_calls.specs.Held.{MayBeText, text_in};
 ghost use Rattle.dia_c_calls.specs.Upgrades.{HasListed, IsLineOfUnknown, IsNotListed, IsRecordedOf, IsUnlisted};
@@ -20,7 +21,9 @@ use crate::sink::TextSink;
 use crate::wanted::Wanted;
 use dia_book::Book;
 use dia_io::{Exit, Input, RunFault};
-use dia_upgrades::{Asked, BadList, Form, Found, Listed, MAX_LIST, Stale, breaking_of, named};
+use dia_upgrades::{
+    Asked, BadList, BooksAnswer, Findings, InWords, MAX_LIST, Stale, breaking_of, named,
+};
 use std::alloc::{AllocError, Global};
 
 /// The first dictionary has no commands.
@@ -65,7 +68,6 @@ pub fn listed<A: Book, B: Book>(
         once,
         meaning,
         stale: Stale::Ignored,
-        form: Form::Text,
         names,
     };
     listed_for(alloc, asked, &list, a, b)
@@ -95,7 +97,7 @@ fn input_of(alloc: Global, bytes: &[u8]) -> Result<Input, AllocError>
 /// The answer for what is asked, and for the list of accepted lines in this input.
 fn listed_for<A: Book, B: Book>(
     alloc: Global,
-    asked: Asked<'_, '_>,
+    asked: Asked<'_>,
     list: &Input,
     a: &A,
     b: &B,
@@ -109,10 +111,10 @@ fn listed_for<A: Book, B: Book>(
     let names = asked.names;
     let RecordedText { text, exit, found } = recorded_of(alloc, asked, list, a, b)?;
     match &found {
-        Found::Listed { .. } => Ok(answer_bytes(alloc, text, exit)?),
-        Found::NoList(bad) => Err(Refused::Bad(list_problem(*bad))),
-        Found::NoCommands => Err(Refused::Bad(NO_COMMANDS)),
-        Found::NoCommand => {
+        Findings::Listed { .. } => Ok(answer_bytes(alloc, text, exit)?),
+        Findings::NoList(bad) => Err(Refused::Bad(list_problem(*bad))),
+        Findings::NoCommands => Err(Refused::Bad(NO_COMMANDS)),
+        Findings::NoCommand => {
             let line = line_of_unknown(alloc, a, names)?;
             Err(Refused::Bad(no_command(line)))
         }
@@ -124,22 +126,22 @@ fn listed_for<A: Book, B: Book>(
 struct RecordedText {
     text: Vec<u8>,
     exit: Exit,
-    found: Found,
+    found: Findings,
 }
 
 fn recorded_of<A: Book, B: Book>(
     alloc: Global,
-    asked: Asked<'_, '_>,
+    asked: Asked<'_>,
     list: &Input,
     a: &A,
     b: &B,
 ) -> Result<RecordedText, AllocError>
-    ensures { IfOk result (λ recorded. IsListed asked.entry list.now (A.meaning a.now) (B.meaning b.now)
+    ensures { IfOk result (λ recorded. IsListed in_words asked.entry list.now (A.meaning a.now) (B.meaning b.now)
         recorded.text.items recorded.exit recorded.found) }
 {
     let mut sink = TextSink::new(alloc);
-    match breaking_of(alloc, asked, list, a, b, &mut sink) {
-        Ok(Listed { exit, found }) => {
+    match breaking_of(alloc, asked, &InWords, list, a, b, &mut sink) {
+        Ok(BooksAnswer { exit, found }) => {
             let text = sink.bytes;
             Ok(RecordedText { text, exit, found })
         }

@@ -10,7 +10,7 @@ use dia_upgrades::{Asked, Stale, lines_left};
 const MOST_COUNTED: usize = 1_000_000;
 
 /// Adds how much breaks where the first side sends less, if that isn't too long to count.
-pub fn push_less(note: &mut Note, asked: Asked<'_, '_>, inputs: &Inputs, books: &BothBooks) {
+pub fn push_less(note: &mut Note, asked: Asked<'_>, inputs: &Inputs, books: &BothBooks) {
     let source = &books.first.source;
     let commands = if asked.names.is_empty() {
         source.commands.len()
@@ -36,7 +36,7 @@ fn push_left(
     note: &mut Note,
     sends: Sends,
     word: &str,
-    asked: Asked<'_, '_>,
+    asked: Asked<'_>,
     inputs: &Inputs,
     books: &BothBooks,
 ) {

@@ -11,7 +11,7 @@ use dia_explain_inputs::{first_of, push_empty, push_refused, push_unknown_comman
 use dia_explain_places::{InputTexts, Note};
 use dia_io::Inputs;
 use dia_report::BothBooks;
-use dia_upgrades::{Asked, Found, Report};
+use dia_upgrades::{Asked, Findings, Report};
 use std::alloc::{AllocError, Global};
 
 /// What standard error reports of an answer of `breaking`. `explain` says whether each cause is explained, and not only the first
@@ -19,7 +19,7 @@ use std::alloc::{AllocError, Global};
 pub fn explain_upgrade(
     alloc: Global,
     texts: &InputTexts<'_>,
-    asked: Asked<'_, '_>,
+    asked: Asked<'_>,
     inputs: &Inputs,
     report: &Report,
     explain: bool,
@@ -29,7 +29,7 @@ pub fn explain_upgrade(
         Report::Refused(bad) => push_refused(&mut note, texts, bad),
         Report::Read { books, found } => {
             push_empty(&mut note, &texts.second);
-            if let Found::Listed { causes, .. } = found {
+            if let Findings::Listed { causes, .. } = found {
                 push_causes(&mut note, texts, books, causes, explain)?;
             }
             push_found(&mut note, texts, asked, inputs, books, found)?;
@@ -42,13 +42,13 @@ pub fn explain_upgrade(
 fn push_found(
     note: &mut Note,
     texts: &InputTexts<'_>,
-    asked: Asked<'_, '_>,
+    asked: Asked<'_>,
     inputs: &Inputs,
     books: &BothBooks,
-    found: &Found,
+    found: &Findings,
 ) -> Result<(), AllocError> {
     match found {
-        Found::Listed {
+        Findings::Listed {
             unused,
             stale,
             lines,
@@ -70,9 +70,9 @@ fn push_found(
             )?;
             push_unused(note, &texts.table, unused, stale);
         }
-        Found::NoList(bad) => push_bad_list(note, &texts.table, bad),
-        Found::NoCommands => push_without_commands(note, &texts.first, &books.first.source),
-        Found::NoCommand => push_unknown_commands(note, texts, asked.names, books),
+        Findings::NoList(bad) => push_bad_list(note, &texts.table, bad),
+        Findings::NoCommands => push_without_commands(note, &texts.first, &books.first.source),
+        Findings::NoCommand => push_unknown_commands(note, texts, asked.names, books),
     }
     Ok(())
 }

@@ -1,4 +1,4 @@
-//! The tests of `dia_json`, `dia_compared_json`, `dia_breaking_places`, `dia_breaking_json` and `dia_upgrades_json`: what is put
+//! The tests of `dia_json`, `dia_compared_json`, `dia_breaking_places`, and `dia_upgrades_json`: what is put
 //! as JSON. They go through public calls alone. There is nothing but tests.
 #![tactic(auto)]
 

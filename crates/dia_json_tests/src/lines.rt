@@ -1,9 +1,9 @@
 //! Lines and causes of `breaking` as JSON.
 
 use dia_breaking::{Amount, LineParts, LineReason, Path, Standing, Subject};
-use dia_breaking_json::{Keys, Names, Spelt, Texts, cause_object, line_object};
 use dia_ccf::{Source, parse};
 use dia_dict::base_book;
+use dia_upgrades_json::{Keys, Names, Spelt, Texts, cause_object, line_object};
 use std::alloc::{AllocError, Global};
 use std::process::Abort;
 use std::test::Fail;

@@ -2,7 +2,7 @@
 
 use dia_io::{Exit, Input, Inputs, ToWriter};
 use dia_terms::{Sends, Unknown};
-use dia_upgrades::{Asked, Form, Stale};
+use dia_upgrades::{Asked, Stale};
 use dia_upgrades_json::breaking;
 use std::alloc::{AllocError, Global};
 use std::test::Fail;
@@ -73,7 +73,6 @@ fn is_answer(
         once,
         meaning: false,
         stale: Stale::Fails,
-        form: Form::Text,
         names: &[],
     };
     let reported = breaking(alloc, asked, &inputs, &mut sink)?;

@@ -16,10 +16,9 @@ use Rattle.dia_refused_json.specs.Recording.{RefusedDictionaries}
 use Rattle.dia_compared_json.specs.Compared.{IsCompareJson}
 use Rattle.dia_upgrades.specs.declared.asked.Asked.{Asked}
 use Rattle.dia_upgrades.specs.Outcome.{AreRefused, IsBreakingOutcome, bad_first, bad_second}
-use Rattle.dia_upgrades.proofs.Outcomes.{bad_is_refused, no_is_unsafe, yes_is_safe}
-use Rattle.dia_upgrades_json.specs.Objects.{as_json}
+use Rattle.dia_upgrades.proofs.Outcomes.{bad_is_refused, listed_in_words, no_is_unsafe, yes_is_safe}
+use Rattle.dia_upgrades_json.specs.Objects.{json_over}
 use Rattle.dia_upgrades_json.specs.Outcome.{IsBreakingJson}
-use Rattle.dia_upgrades_json.proofs.Forms.{refused_as_json, refused_in_words, safe_in_words, unsafe_in_words}
 use Rattle.dia_cli.specs.Ending.{Stream}
 use Rattle.dia_cli.specs.OpenedInputs.{IsReadOf}
 use Rattle.dia_cli.specs.declared.origin.Origin.{Origin}
@@ -72,13 +71,12 @@ module _ (asked : Asked) (inputs : Inputs) (text : List ℕ) (exit : Exit) where
 
   json_says : IsBreakingJson asked inputs text exit → SaysOfUpgrade asked inputs exit
   json_says (inl (a, b, is_a, is_b, (is, listed))) =
-      let json = as_json asked listed.names in
-      let outcome : IsBreakingOutcome json inputs listed.objects exit = ended a b is_a is_b (is, listed.listed) in
-      let both = bad_is_refused json inputs listed.objects exit outcome in
+      let (words, in_words) = listed_in_words (json_over a b listed.texts) asked inputs.table a b text exit is listed.listed in
+      let outcome : IsBreakingOutcome asked inputs words exit = ended a b is_a is_b (is, in_words) in
       record {
-        yes = λ is_yes. safe_in_words asked listed.names inputs listed.objects (yes_is_safe json inputs listed.objects exit outcome is_yes);
-        no = λ is_no. unsafe_in_words asked listed.names inputs listed.objects (no_is_unsafe json inputs listed.objects exit outcome is_no);
-        bad = (λ is_bad. refused_in_words asked listed.names inputs (both.0 is_bad), λ refused. both.1 (refused_as_json asked listed.names inputs refused));
+        yes = λ is_yes. (words, yes_is_safe asked inputs words exit outcome is_yes);
+        no = λ is_no. (words, no_is_unsafe asked inputs words exit outcome is_no);
+        bad = bad_is_refused asked inputs words exit outcome;
       }
   json_says (inr refused) =
       let is_bad = refused_badly inputs text exit refused in

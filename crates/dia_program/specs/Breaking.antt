@@ -9,7 +9,6 @@ use Rattle.dia_cli.specs.declared.ending.Ending.{Ending}
 use Rattle.dia_cli.specs.declared.ending.Ending.TheVariants as ending
 use Rattle.dia_cli.specs.declared.task.Breaking.{Breaking}
 use Rattle.dia_upgrades.specs.declared.asked.Asked.{Asked}
-use Rattle.dia_upgrades.specs.declared.asked.Form.TheVariants.{Text}
 use Rattle.dia_upgrades.specs.declared.asked.Stale.{Stale}
 use Rattle.dia_upgrades.specs.declared.asked.Stale.TheVariants.{Fails, Allowed}
 use Rattle.dia_upgrades.specs.Outcome.{IsBreakingOutcome}
@@ -30,7 +29,6 @@ pub record AsksFor (breaking : Breaking) (asked : Asked) : Type 0 where
   pub once : asked.once ≡ breaking.once
   pub meaning : asked.meaning ≡ breaking.meaning
   pub stale : asked.stale ≡ stale_in breaking.stale_allowed
-  pub form : asked.form ≡ Text
   pub names : asked.names.now ≡ breaking.names.items
 
 -- what is written, and how it ends: as JSON, if that is asked for

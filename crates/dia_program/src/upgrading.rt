@@ -11,12 +11,12 @@ use dia_explain_places::InputTexts;
 use dia_explain_upgrades::explain_upgrade;
 use dia_io::{Exit, Inputs, RunFault, Sink, ToWriter};
 use dia_tasks::{Manner, texts_of};
-use dia_upgrades::{Asked, Form, Report, Reported, Stale, breaking};
+use dia_upgrades::{Asked, BreakingAnswer, Report, Stale, breaking};
 use std::alloc::Global;
 use std::io::Write;
 
 /// `breaking` as the command line asks for it.
-pub(crate) fn asked_of(breaking: &Breaking) -> Asked<'_, '_>
+pub(crate) fn asked_of(breaking: &Breaking) -> Asked<'_>
     ensures { AsksFor breaking.now result }
 {
     Asked {
@@ -26,7 +26,6 @@ pub(crate) fn asked_of(breaking: &Breaking) -> Asked<'_, '_>
         once: breaking.once,
         meaning: breaking.meaning,
         stale: stale_in(breaking.stale_allowed),
-        form: Form::Text,
         names: breaking.names.as_slice(),
     }
 }
@@ -45,7 +44,7 @@ fn stale_in(is_allowed: bool) -> Stale
 /// Lists what breaks, and explains it, unless it is to be quiet: each cause if `explain`, and otherwise the first ones.
 pub(crate) fn list<'a, R, W>(
     rt: &R,
-    asked: Asked<'_, '_>,
+    asked: Asked<'_>,
     explain: bool,
     inputs: &Inputs,
     origins: &Origins<'a>,
@@ -75,11 +74,11 @@ where
 /// Lists what breaks, as JSON if that is asked for.
 fn listed<W: Write>(
     alloc: Global,
-    asked: Asked<'_, '_>,
+    asked: Asked<'_>,
     inputs: &Inputs,
     json: bool,
     out: &mut ToWriter<W>,
-) -> Result<Reported, RunFault>
+) -> Result<BreakingAnswer, RunFault>
     requires { ¬ IsTrue (⟦<ToWriter<W> as Sink>⟧.has_failed out.old) }
     ensures text { IfOk result (λ reported. (text : List ℕ) × IsListed json asked.entry inputs.now text reported.exit
         × Appends (⟦<ToWriter<W> as Sink>⟧.written out.old) (⟦<ToWriter<W> as Sink>⟧.written out.new) text) }
@@ -100,7 +99,7 @@ fn listed<W: Write>(
 fn note_upgrade<R: AllocGlobal + Eprint>(
     rt: &R,
     texts: &InputTexts<'_>,
-    asked: Asked<'_, '_>,
+    asked: Asked<'_>,
     explain: bool,
     inputs: &Inputs,
     report: &Report,

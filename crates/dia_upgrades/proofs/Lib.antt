@@ -2,7 +2,7 @@ pub mod Answered
 pub mod AskedCommands
 pub mod CommandHeads
 pub mod Commands
-pub mod Forms
+pub mod Endings
 pub mod LinesToReport
 pub mod Listings
 pub mod Outcomes

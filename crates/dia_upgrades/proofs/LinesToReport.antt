@@ -1,45 +1,41 @@
 -- Lines that are known one after another, and their texts.
-use Rattle.std.proofs.Common.{◌≡◌, ℕ, ◌+◌, ◌<◌, ◌^◌, Bool, true, false, cond, List, [], ◌∷◌, ◌++◌, Option, Some, None, drop, get_or, length, map, take, refl, sym, ap, subst, ◌∙◌, append_assoc, string_bytes, arith}
+use Rattle.std.proofs.Common.{◌≡◌, ℕ, ◌+◌, ◌<◌, ◌^◌, Bool, true, false, cond, List, [], ◌∷◌, ◌++◌, Option, Some, None, length, map, refl, sym, ap, subst, ◌∙◌, arith}
 use Rattle.std.specs.Prelude.{◌||◌, not}
 use Rattle.std.specs.List.{list_any}
 use Rattle.std.proofs.lemmas.Grind.{flat_map-append}
-use Rattle.std.proofs.lemmas.List.{append-nil, length-append, map-append, take-append-drop, take_more}
+use Rattle.std.proofs.lemmas.List.{append-nil, length-append}
 use Rattle.std.proofs.lemmas.List.Elements.{filter-append}
 use Rattle.dia_accepted.specs.declared.counting.Causes.{Causes}
-use Rattle.dia_accepted.specs.declared.recorded.Recorded.{Recorded}
-use Rattle.dia_accepted.specs.Accepted.{PlainEntry, PlainRecorded, accepts, plain_recorded}
+use Rattle.dia_accepted.specs.Accepted.{PlainEntry, accepts}
 use Rattle.hex.specs.Hex.{encode_lower}
 use Rattle.dia_breaking_sites.specs.Sent.{AreBytes}
 use Rattle.dia_breaking.specs.declared.line.Standing.{Standing}
 use Rattle.dia_breaking.specs.declared.line.Standing.TheVariants.{Confirmed, Unchecked, Undecided}
-use Rattle.dia_io.specs.Writing.{AppendsFront}
-use Rattle.dia_run.specs.Texts.{line}
 use Rattle.dia_upgrades.specs.declared.asked.Asked.{Asked}
 use Rattle.dia_upgrades.specs.declared.seen.Seen.{Seen}
 use Rattle.dia_upgrades.specs.Outcome.{accepted_of, counted}
 use Rattle.dia_upgrades.specs.Recorded.{IsAfter, has_message, written}
-use Rattle.dia_upgrades.specs.Forms.{line_in}
 use Rattle.dia_upgrades.specs.UnderWay.{AreJudged, Sees, SeesApart, firsts_in, is_any, lines_after, plain_first, text_shown}
-use Rattle.dia_upgrades.proofs.Puts.{front_of_more}
 use Rattle.dia_upgrades.proofs.Rows.{seen_after, seen_before}
 use Rattle.dia_upgrades.specs.Rows.{AreCauses, HasSeen, Row, digits_line, is_accepted, is_command, left_of}
+use Rattle.dia_upgrades.specs.Writing.{Writing, line_in}
 
 -- ---- texts
 
 -- where nothing is left, nothing is written
-pub nothing_shown : (asked : Asked) → text_shown asked [] ≡ []
-nothing_shown asked = by asked.once
+pub nothing_shown : (w : Writing) (asked : Asked) → text_shown w asked [] ≡ []
+nothing_shown w asked = by asked.once
   where
-    by : (b : Bool) → cond b [] (written asked []) ≡ []
+    by : (b : Bool) → cond b [] (written w []) ≡ []
     by true = refl
     by false = refl
 
-pub shown_more : (asked : Asked) (xs ys : List Row) → text_shown asked (xs ++ ys) ≡ text_shown asked xs ++ text_shown asked ys
-shown_more asked xs ys = by asked.once
+pub shown_more : (w : Writing) (asked : Asked) (xs ys : List Row) → text_shown w asked (xs ++ ys) ≡ text_shown w asked xs ++ text_shown w asked ys
+shown_more w asked xs ys = by asked.once
   where
-    by : (b : Bool) → cond b [] (written asked (xs ++ ys)) ≡ cond b [] (written asked xs) ++ cond b [] (written asked ys)
+    by : (b : Bool) → cond b [] (written w (xs ++ ys)) ≡ cond b [] (written w xs) ++ cond b [] (written w ys)
     by true = refl
-    by false = flat_map-append (line_in asked.form) xs ys
+    by false = flat_map-append (line_in w) xs ys
 
 -- the digits that follow a line whose message has these bytes, if any do
 abbrev pub digits_after : Bool → List ℕ → Option (List ℕ)
@@ -143,7 +139,7 @@ judged_so list old new recorded apart same lines accepted some are = record {
 same_firsts : (old new : Seen) → new.firsts ≡ old.firsts → map plain_first new.firsts.items ≡ map plain_first old.firsts.items
 same_firsts old new same = ap (λ f. map plain_first f.items) same
 
-module _ (asked : Asked) (place : ℕ) (old mid : Seen) (t : Row) (words : List ℕ) (known : Bool) (words_are : t.words ≡ words)
+module _ (w : Writing) (asked : Asked) (place : ℕ) (old mid : Seen) (t : Row) (words : List ℕ) (known : Bool) (words_are : t.words ≡ words)
     (accepted : (list : List PlainEntry) (recorded apart : List Row) → AreJudged list old recorded apart → known ≡ list_any (accepts words) list)
     (judged : (list : List PlainEntry) (recorded apart : List Row) (x : Row) → x.words ≡ words → AreJudged list old recorded apart → AreJudged list mid (recorded ++ x ∷ []) apart)
     (causes : mid.causes ≡ old.causes) (meanings : mid.meanings ≡ old.meanings) (firsts : mid.firsts ≡ old.firsts) where
@@ -151,7 +147,7 @@ module _ (asked : Asked) (place : ℕ) (old mid : Seen) (t : Row) (words : List 
   is_known list recorded apart are = ap (λ (w : List ℕ). list_any (accepts w) list) words_are ∙ sym (accepted list recorded apart are)
 
   -- the list accepts it
-  pub sees_accepted : known ≡ true → Sees asked place old mid t []
+  pub sees_accepted : known ≡ true → Sees w asked place old mid t []
   sees_accepted is_yes = λ forgets list visits recorded apart small are.
       let e = is_known list recorded apart are.judged ∙ is_yes in
       let same : left_of list recorded ≡ left_of list (recorded ++ t ∷ []) = sym (left_more list recorded t true e ∙ append-nil (left_of list recorded)) in (
@@ -164,7 +160,7 @@ module _ (asked : Asked) (place : ℕ) (old mid : Seen) (t : Row) (words : List 
             firsts = same_firsts old mid firsts ∙ are.are_kept.firsts ∙ ap (firsts_in asked) same;
           };
         },
-        sym (ap (text_shown asked) (left_one list t true e) ∙ nothing_shown asked),
+        sym (ap (text_shown w asked) (left_one list t true e) ∙ nothing_shown w asked),
       )
 
   -- or it is left
@@ -172,7 +168,7 @@ module _ (asked : Asked) (place : ℕ) (old mid : Seen) (t : Row) (words : List 
       → ((forgets : Bool) (recorded : List Row) (visits : ℕ) → visits < 2 ^ 63 → AreCauses forgets mid.causes recorded place visits → AreCauses forgets new.causes (recorded ++ t ∷ []) place visits)
       → ((forgets : Bool) (recorded : List Row) (visits : ℕ) → AreCauses forgets mid.causes recorded place visits → map plain_first mid.firsts.items ≡ firsts_in asked recorded
       → map plain_first new.firsts.items ≡ firsts_in asked (recorded ++ t ∷ []))
-      → text ≡ text_shown asked (t ∷ []) → Sees asked place old new t text
+      → text ≡ text_shown w asked (t ∷ []) → Sees w asked place old new t text
   sees_left new text is_no same_list same_meanings same_lines same_accepted same_some added stored text_is = λ forgets list visits recorded apart small are.
       let e = is_known list recorded apart are.judged ∙ is_no in
       let more : left_of list recorded ++ t ∷ [] ≡ left_of list (recorded ++ t ∷ []) = sym (left_more list recorded t false e) in
@@ -185,7 +181,7 @@ module _ (asked : Asked) (place : ℕ) (old mid : Seen) (t : Row) (words : List 
             firsts = stored forgets (left_of list recorded) visits before (same_firsts old mid firsts ∙ are.are_kept.firsts) ∙ ap (firsts_in asked) more;
           };
         },
-        text_is ∙ ap (text_shown asked) (sym (left_one list t false e)),
+        text_is ∙ ap (text_shown w asked) (sym (left_one list t false e)),
       )
 
 -- ---- a line of a meaning that comes

@@ -21,86 +21,11 @@ use Rattle.dia_upgrades.proofs.LinesToReport.{left_both, digits_after, shown_mor
 use Rattle.dia_upgrades.proofs.Parts.{all_parts, both_ends}
 use Rattle.dia_upgrades.proofs.Puts.{same_put}
 use Rattle.dia_upgrades.specs.Rows.{Row, is_command, left_of}
+use Rattle.dia_upgrades.specs.Writing.{Writing}
+
+-- ---- lines that aren't shown
 
 module _ (asked : Asked) (place : ℕ) where
-  -- ---- one line
-
-  text_after : (list : List PlainEntry) (recorded : List Row) (t : Row) (text : List ℕ) → text ≡ text_shown asked (left_of list (t ∷ []))
-      → text_shown asked (left_of list recorded) ++ text ≡ text_shown asked (left_of list (recorded ++ t ∷ []))
-  text_after list recorded t text is =
-      ap (λ (x : List ℕ). text_shown asked (left_of list recorded) ++ x) is ∙ sym (shown_more asked (left_of list recorded) (left_of list (t ∷ [])))
-      ∙ ap (text_shown asked) (sym (left_both list recorded (t ∷ [])))
-
-  pub line_goes : (put_old put : Option (List ℕ)) (old new : Listing) (t : Row) (text : List ℕ) → Sees asked place old.seen new.seen t text
-      → ((begun : Option (List ℕ)) (before : List ℕ) → IsPut begun put_old old.pending before → IsPut begun put new.pending (before ++ text)) → GoesOn asked place put_old put old new (t ∷ []) []
-  line_goes put_old put old new t text sees added = λ forgets list visits begun recorded apart small way.
-      let s = sees forgets list visits recorded apart small way.seen in record {
-        seen = subst (λ (xs : List Row). AreSeen asked forgets list place visits new.seen (recorded ++ t ∷ []) xs) (sym (append-nil apart)) s.0;
-        is_put = subst (IsPut begun put new.pending) (text_after list recorded t text s.1) (added begun (text_shown asked (left_of list recorded)) way.is_put);
-      }
-
-  pub line_stops : (put_old put : Option (List ℕ)) (old new : Listing) (seen : Seen) (t : Row) (text : List ℕ) → Sees asked place old.seen seen t text
-      → ((begun : Option (List ℕ)) (before : List ℕ) → IsPut begun put_old old.pending before → AppendsFront begun put (before ++ text)) → StopsAfter asked place Device put_old put old new (t ∷ [])
-  line_stops put_old put old new seen t text sees front = λ forgets list visits begun recorded apart small way.
-      subst (AppendsFront begun put) (text_after list recorded t text (sees forgets list visits recorded apart small way.seen).1) (front begun (text_shown asked (left_of list recorded)) way.is_put)
-
-  -- ---- nothing more
-
-  pub goes_nothing : (put : Option (List ℕ)) (now : Listing) → GoesOn asked place put put now now [] []
-  goes_nothing put now = λ forgets list visits begun recorded apart small way. subst (λ (xs : List Row). IsUnderWay asked forgets list place visits begun put now xs (apart ++ [])) (sym (append-nil recorded))
-      (subst (λ (xs : List Row). IsUnderWay asked forgets list place visits begun put now recorded xs) (sym (append-nil apart)) way)
-
-  -- where memory is refused, what was put and what is pending stay
-  pub stops_here : (put : Option (List ℕ)) (old new : Listing) → new.pending ≡ old.pending → StopsAfter asked place NoMemory put put old new []
-  stops_here put old new same = λ forgets list visits begun recorded apart small way.
-      subst (λ (xs : List Row). IsPut begun put new.pending (text_shown asked (left_of list xs))) (sym (append-nil recorded))
-      (same_put begun put old.pending new.pending (text_shown asked (left_of list recorded)) (ap (λ p. p.bytes.items) same) way.is_put)
-
-  pub stops_after : (put_old put : Option (List ℕ)) (old mid new : Listing) (more others : List Row) → new.pending ≡ mid.pending → GoesOn asked place put_old put old mid more others
-      → StopsAfter asked place NoMemory put_old put old new more
-  stops_after put_old put old mid new more others same goes = λ forgets list visits begun recorded apart small way.
-      same_put begun put mid.pending new.pending (text_shown asked (left_of list (recorded ++ more))) (ap (λ p. p.bytes.items) same) (goes forgets list visits begun recorded apart small way).is_put
-
-  from_there : (put : Option (List ℕ)) (old mid : Listing) → mid.seen ≡ old.seen → mid.pending ≡ old.pending → (forgets : Bool) (list : List PlainEntry) (visits : ℕ) (begun : Option (List ℕ))
-      (recorded apart : List Row) → IsUnderWay asked forgets list place visits begun put old recorded apart → IsUnderWay asked forgets list place visits begun put mid recorded apart
-  from_there put old mid seen pending forgets list visits begun recorded apart way = record {
-    seen = subst (λ s. AreSeen asked forgets list place visits s recorded apart) (sym seen) way.seen;
-    is_put = same_put begun put old.pending mid.pending (text_shown asked (left_of list recorded)) (ap (λ p. p.bytes.items) pending) way.is_put;
-  }
-
-  -- what was known before the budget was used
-  pub goes_from : (a b : Option (List ℕ)) (old mid new : Listing) (more others : List Row) → mid.seen ≡ old.seen → mid.pending ≡ old.pending → GoesOn asked place a b mid new more others
-      → GoesOn asked place a b old new more others
-  goes_from a b old mid new more others seen pending goes = λ forgets list visits begun recorded apart small way. goes forgets list visits begun recorded apart small (from_there a old mid seen pending forgets list visits begun recorded apart way)
-
-  pub stops_from : (fault : RunFault) (a b : Option (List ℕ)) (old mid new : Listing) (more : List Row) → mid.seen ≡ old.seen → mid.pending ≡ old.pending → StopsAfter asked place fault a b mid new more
-      → StopsAfter asked place fault a b old new more
-  stops_from fault a b old mid new more seen pending stops = λ forgets list visits begun recorded apart small way. stops forgets list visits begun recorded apart small (from_there a old mid seen pending forgets list visits begun recorded apart way)
-
-  -- ---- one thing after another
-
-  pub goes_both : (a b c : Option (List ℕ)) (old mid new : Listing) (more last others rest : List Row) → GoesOn asked place a b old mid more others → GoesOn asked place b c mid new last rest
-      → GoesOn asked place a c old new (more ++ last) (others ++ rest)
-  goes_both a b c old mid new more last others rest first second = λ forgets list visits begun recorded apart small way.
-      subst (λ (xs : List Row). IsUnderWay asked forgets list place visits begun c new xs (apart ++ (others ++ rest))) (append_assoc recorded more last)
-      (subst (λ (xs : List Row). IsUnderWay asked forgets list place visits begun c new ((recorded ++ more) ++ last) xs) (append_assoc apart others rest)
-      (second forgets list visits begun (recorded ++ more) (apart ++ others) small (first forgets list visits begun recorded apart small way)))
-
-  pub stops_later : (fault : RunFault) (a b c : Option (List ℕ)) (old mid new : Listing) (more last others : List Row) → GoesOn asked place a b old mid more others
-      → StopsAfter asked place fault b c mid new last → StopsAfter asked place fault a c old new (more ++ last)
-  stops_later fault a b c old mid new more last others goes stops = λ forgets list visits begun recorded apart small way.
-      subst (λ (xs : List Row). Occurs fault begun c new.pending (text_shown asked (left_of list xs))) (append_assoc recorded more last)
-      (stops forgets list visits begun (recorded ++ more) (apart ++ others) small (goes forgets list visits begun recorded apart small way))
-
-  -- lines that aren't shown
-  pub apart_goes : (put : Option (List ℕ)) (old new : Listing) (others : List Row) → new.pending ≡ old.pending → SeesApart asked place old.seen new.seen others
-      → GoesOn asked place put put old new [] others
-  apart_goes put old new others same sees = λ forgets list visits begun recorded apart small way.
-      subst (λ (xs : List Row). IsUnderWay asked forgets list place visits begun put new xs (apart ++ others)) (sym (append-nil recorded)) (record {
-        seen = sees forgets list visits recorded apart small way.seen;
-        is_put = same_put begun put old.pending new.pending (text_shown asked (left_of list recorded)) (ap (λ p. p.bytes.items) same) way.is_put;
-      })
-
   pub apart_both : (old mid new : Seen) (others rest : List Row) → SeesApart asked place old mid others → SeesApart asked place mid new rest → SeesApart asked place old new (others ++ rest)
   apart_both old mid new others rest first second = λ forgets list visits recorded apart small are.
       subst (λ (xs : List Row). AreSeen asked forgets list place visits new recorded xs) (append_assoc apart others rest)
@@ -108,6 +33,85 @@ module _ (asked : Asked) (place : ℕ) where
 
   pub apart_nothing : (now : Seen) → SeesApart asked place now now []
   apart_nothing now = λ forgets list visits recorded apart small are. subst (λ (xs : List Row). AreSeen asked forgets list place visits now recorded xs) (sym (append-nil apart)) are
+
+module _ (w : Writing) (asked : Asked) (place : ℕ) where
+  -- ---- one line
+
+  text_after : (list : List PlainEntry) (recorded : List Row) (t : Row) (text : List ℕ) → text ≡ text_shown w asked (left_of list (t ∷ []))
+      → text_shown w asked (left_of list recorded) ++ text ≡ text_shown w asked (left_of list (recorded ++ t ∷ []))
+  text_after list recorded t text is =
+      ap (λ (x : List ℕ). text_shown w asked (left_of list recorded) ++ x) is ∙ sym (shown_more w asked (left_of list recorded) (left_of list (t ∷ [])))
+      ∙ ap (text_shown w asked) (sym (left_both list recorded (t ∷ [])))
+
+  pub line_goes : (put_old put : Option (List ℕ)) (old new : Listing) (t : Row) (text : List ℕ) → Sees w asked place old.seen new.seen t text
+      → ((begun : Option (List ℕ)) (before : List ℕ) → IsPut begun put_old old.pending before → IsPut begun put new.pending (before ++ text)) → GoesOn w asked place put_old put old new (t ∷ []) []
+  line_goes put_old put old new t text sees added = λ forgets list visits begun recorded apart small way.
+      let s = sees forgets list visits recorded apart small way.seen in record {
+        seen = subst (λ (xs : List Row). AreSeen asked forgets list place visits new.seen (recorded ++ t ∷ []) xs) (sym (append-nil apart)) s.0;
+        is_put = subst (IsPut begun put new.pending) (text_after list recorded t text s.1) (added begun (text_shown w asked (left_of list recorded)) way.is_put);
+      }
+
+  pub line_stops : (put_old put : Option (List ℕ)) (old new : Listing) (seen : Seen) (t : Row) (text : List ℕ) → Sees w asked place old.seen seen t text
+      → ((begun : Option (List ℕ)) (before : List ℕ) → IsPut begun put_old old.pending before → AppendsFront begun put (before ++ text)) → StopsAfter w asked place Device put_old put old new (t ∷ [])
+  line_stops put_old put old new seen t text sees front = λ forgets list visits begun recorded apart small way.
+      subst (AppendsFront begun put) (text_after list recorded t text (sees forgets list visits recorded apart small way.seen).1) (front begun (text_shown w asked (left_of list recorded)) way.is_put)
+
+  -- ---- nothing more
+
+  pub goes_nothing : (put : Option (List ℕ)) (now : Listing) → GoesOn w asked place put put now now [] []
+  goes_nothing put now = λ forgets list visits begun recorded apart small way. subst (λ (xs : List Row). IsUnderWay w asked forgets list place visits begun put now xs (apart ++ [])) (sym (append-nil recorded))
+      (subst (λ (xs : List Row). IsUnderWay w asked forgets list place visits begun put now recorded xs) (sym (append-nil apart)) way)
+
+  -- where memory is refused, what was put and what is pending stay
+  pub stops_here : (put : Option (List ℕ)) (old new : Listing) → new.pending ≡ old.pending → StopsAfter w asked place NoMemory put put old new []
+  stops_here put old new same = λ forgets list visits begun recorded apart small way.
+      subst (λ (xs : List Row). IsPut begun put new.pending (text_shown w asked (left_of list xs))) (sym (append-nil recorded))
+      (same_put begun put old.pending new.pending (text_shown w asked (left_of list recorded)) (ap (λ p. p.bytes.items) same) way.is_put)
+
+  pub stops_after : (put_old put : Option (List ℕ)) (old mid new : Listing) (more others : List Row) → new.pending ≡ mid.pending → GoesOn w asked place put_old put old mid more others
+      → StopsAfter w asked place NoMemory put_old put old new more
+  stops_after put_old put old mid new more others same goes = λ forgets list visits begun recorded apart small way.
+      same_put begun put mid.pending new.pending (text_shown w asked (left_of list (recorded ++ more))) (ap (λ p. p.bytes.items) same) (goes forgets list visits begun recorded apart small way).is_put
+
+  from_there : (put : Option (List ℕ)) (old mid : Listing) → mid.seen ≡ old.seen → mid.pending ≡ old.pending → (forgets : Bool) (list : List PlainEntry) (visits : ℕ) (begun : Option (List ℕ))
+      (recorded apart : List Row) → IsUnderWay w asked forgets list place visits begun put old recorded apart → IsUnderWay w asked forgets list place visits begun put mid recorded apart
+  from_there put old mid seen pending forgets list visits begun recorded apart way = record {
+    seen = subst (λ s. AreSeen asked forgets list place visits s recorded apart) (sym seen) way.seen;
+    is_put = same_put begun put old.pending mid.pending (text_shown w asked (left_of list recorded)) (ap (λ p. p.bytes.items) pending) way.is_put;
+  }
+
+  -- what was known before the budget was used
+  pub goes_from : (a b : Option (List ℕ)) (old mid new : Listing) (more others : List Row) → mid.seen ≡ old.seen → mid.pending ≡ old.pending → GoesOn w asked place a b mid new more others
+      → GoesOn w asked place a b old new more others
+  goes_from a b old mid new more others seen pending goes = λ forgets list visits begun recorded apart small way. goes forgets list visits begun recorded apart small (from_there a old mid seen pending forgets list visits begun recorded apart way)
+
+  pub stops_from : (fault : RunFault) (a b : Option (List ℕ)) (old mid new : Listing) (more : List Row) → mid.seen ≡ old.seen → mid.pending ≡ old.pending → StopsAfter w asked place fault a b mid new more
+      → StopsAfter w asked place fault a b old new more
+  stops_from fault a b old mid new more seen pending stops = λ forgets list visits begun recorded apart small way. stops forgets list visits begun recorded apart small (from_there a old mid seen pending forgets list visits begun recorded apart way)
+
+  -- ---- one thing after another
+
+  pub goes_both : (a b c : Option (List ℕ)) (old mid new : Listing) (more last others rest : List Row) → GoesOn w asked place a b old mid more others → GoesOn w asked place b c mid new last rest
+      → GoesOn w asked place a c old new (more ++ last) (others ++ rest)
+  goes_both a b c old mid new more last others rest first second = λ forgets list visits begun recorded apart small way.
+      subst (λ (xs : List Row). IsUnderWay w asked forgets list place visits begun c new xs (apart ++ (others ++ rest))) (append_assoc recorded more last)
+      (subst (λ (xs : List Row). IsUnderWay w asked forgets list place visits begun c new ((recorded ++ more) ++ last) xs) (append_assoc apart others rest)
+      (second forgets list visits begun (recorded ++ more) (apart ++ others) small (first forgets list visits begun recorded apart small way)))
+
+  pub stops_later : (fault : RunFault) (a b c : Option (List ℕ)) (old mid new : Listing) (more last others : List Row) → GoesOn w asked place a b old mid more others
+      → StopsAfter w asked place fault b c mid new last → StopsAfter w asked place fault a c old new (more ++ last)
+  stops_later fault a b c old mid new more last others goes stops = λ forgets list visits begun recorded apart small way.
+      subst (λ (xs : List Row). Occurs fault begun c new.pending (text_shown w asked (left_of list xs))) (append_assoc recorded more last)
+      (stops forgets list visits begun (recorded ++ more) (apart ++ others) small (goes forgets list visits begun recorded apart small way))
+
+  -- lines that aren't shown
+  pub apart_goes : (put : Option (List ℕ)) (old new : Listing) (others : List Row) → new.pending ≡ old.pending → SeesApart asked place old.seen new.seen others
+      → GoesOn w asked place put put old new [] others
+  apart_goes put old new others same sees = λ forgets list visits begun recorded apart small way.
+      subst (λ (xs : List Row). IsUnderWay w asked forgets list place visits begun put new xs (apart ++ others)) (sym (append-nil recorded)) (record {
+        seen = sees forgets list visits recorded apart small way.seen;
+        is_put = same_put begun put old.pending new.pending (text_shown w asked (left_of list recorded)) (ap (λ p. p.bytes.items) same) way.is_put;
+      })
 
 -- ---- among lines
 
@@ -126,11 +130,11 @@ from_here : {X : Type 0} (xs : List X) (i : ℕ) (d : X) → i < length xs → t
 from_here xs i d less =
     sym (append_assoc (take i xs) (get_or xs i d ∷ []) (drop (i + 1) xs)) ∙ ap (λ ys. ys ++ drop (i + 1) xs) (sym (take_more xs i d less)) ∙ take-append-drop (i + 1) xs
 
-module _ (asked : Asked) (place : ℕ) (messages : Bool) (says : Line → Says) (are : Line → List ℕ → Type 0) (some : (x : Line) → (bytes : List ℕ) × AreBytes bytes × are x bytes) where
+module _ (w : Writing) (asked : Asked) (place : ℕ) (messages : Bool) (says : Line → Says) (are : Line → List ℕ → Type 0) (some : (x : Line) → (bytes : List ℕ) × AreBytes bytes × are x bytes) where
   -- it stops in the line at i
   pub stops_at : (fault : RunFault) (a b c : Option (List ℕ)) (old mid new : Listing) (lines : List Line) (i : ℕ) (x : Line) (recorded : List Row) → i < length lines → x ≡ get_or lines i x
-      → AreParts (IsLineRecorded place messages says are) (take i lines) recorded → GoesOn asked place a b old mid recorded [] → StopsAmong asked place fault b c mid new (IsLineRecorded place messages says are) (x ∷ [])
-      → StopsAmong asked place fault a c old new (IsLineRecorded place messages says are) lines
+      → AreParts (IsLineRecorded place messages says are) (take i lines) recorded → GoesOn w asked place a b old mid recorded [] → StopsAmong w asked place fault b c mid new (IsLineRecorded place messages says are) (x ∷ [])
+      → StopsAmong w asked place fault a c old new (IsLineRecorded place messages says are) lines
   stops_at fault a b c old mid new lines i x recorded less is_x parts_are goes stops =
       let rest = any_recorded place messages says are some (drop (i + 1) lines) in
       let here : take i lines ++ (x ∷ drop (i + 1) lines) ≡ lines = ap (λ (y : Line). take i lines ++ (y ∷ drop (i + 1) lines)) is_x ∙ from_here lines i x less in
@@ -141,21 +145,21 @@ module _ (asked : Asked) (place : ℕ) (messages : Bool) (says : Line → Says) 
         more = recorded ++ stops.more;
         rest = stops.rest ++ rest.0;
         are_parts = subst (AreParts (IsLineRecorded place messages says are) lines) regrouped (subst (λ (xs : List Line). AreParts (IsLineRecorded place messages says are) xs (recorded ++ ((stops.more ++ stops.rest) ++ rest.0))) here parts);
-        stops = stops_later asked place fault a b c old mid new recorded stops.more [] goes stops.stops;
+        stops = stops_later w asked place fault a b c old mid new recorded stops.more [] goes stops.stops;
       }
 
   -- it stops before a line
-  pub stops_before_line : (put : Option (List ℕ)) (old new : Listing) (x : Line) → new.pending ≡ old.pending → StopsAmong asked place NoMemory put put old new (IsLineRecorded place messages says are) (x ∷ [])
+  pub stops_before_line : (put : Option (List ℕ)) (old new : Listing) (x : Line) → new.pending ≡ old.pending → StopsAmong w asked place NoMemory put put old new (IsLineRecorded place messages says are) (x ∷ [])
   stops_before_line put old new x same =
       let one = row_of place (says x) (digits_after (has_message messages x.standing) (some x).0) ∷ [] in record {
         more = [];
         rest = one;
         are_parts = (one, [], could_be place messages says are x (some x).0 ((some x).1, (some x).2), refl, sym (append-nil one));
-        stops = stops_here asked place put old new same;
+        stops = stops_here w asked place put old new same;
       }
 
-  pub stops_in_line : (put_old put : Option (List ℕ)) (old new : Listing) (x : Line) (t : Row) → IsLineRecorded place messages says are x (t ∷ []) → StopsAfter asked place Device put_old put old new (t ∷ [])
-      → StopsAmong asked place Device put_old put old new (IsLineRecorded place messages says are) (x ∷ [])
+  pub stops_in_line : (put_old put : Option (List ℕ)) (old new : Listing) (x : Line) (t : Row) → IsLineRecorded place messages says are x (t ∷ []) → StopsAfter w asked place Device put_old put old new (t ∷ [])
+      → StopsAmong w asked place Device put_old put old new (IsLineRecorded place messages says are) (x ∷ [])
   stops_in_line put_old put old new x t is_t stops =
       record { more = t ∷ []; rest = []; are_parts = (t ∷ [], [], is_t, refl, refl); stops = stops }
 

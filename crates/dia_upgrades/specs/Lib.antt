@@ -1,6 +1,6 @@
 pub mod Asking
 pub mod Begun
-pub mod Forms
+pub mod InWords
 pub mod Lists
 pub mod Outcome
 pub mod Places
@@ -9,3 +9,4 @@ pub mod Rows
 pub mod Stale
 pub mod Recorded
 pub mod UnderWay
+pub mod Writing

@@ -1,5 +1,5 @@
 -- What `breaking` writes for its inputs, and how it ends.
-use Rattle.std.specs.Prelude.{◌≡◌, ◌≢◌, ◌⊎◌, ⊤, ℕ, Bool, true, false, if◌then◌else◌, List, [], ◌∷◌, ◌++◌, Some, Contains, filter, length, map, min, slice_get, codes}
+use Rattle.std.specs.Prelude.{◌≡◌, ◌≢◌, ◌⊎◌, ⊤, ℕ, Bool, true, false, if◌then◌else◌, List, [], ◌++◌, Some, Contains, filter, length, map, min, slice_get}
 use Rattle.std.specs.Global.{Vec}
 use Rattle.std.specs.List.{AllByRecursion, list_any}
 use Rattle.dia_book.specs.Dictionary.{Dictionary, PlainDefinition, definitions}
@@ -10,7 +10,7 @@ use Rattle.dia_io.specs.declared.Input.{Input}
 use Rattle.dia_io.specs.declared.Inputs.{Inputs}
 use Rattle.dia_io.specs.declared.Exit.{Exit}
 use Rattle.dia_io.specs.declared.Exit.TheVariants.{Yes, No, Bad}
-use Rattle.dia_run.specs.Texts.{IsDictionaryText, IsNoDictionaryText}
+use Rattle.dia_run.specs.Texts.{IsDictionaryText, IsNoDictionaryText, line}
 use Rattle.dia_run.specs.Outcome.{IsPairOutcome}
 use Rattle.dia_accepted.specs.Accepted.{PlainEntry, accepts, plain_entry, plain_recorded}
 use Rattle.dia_accepted.specs.declared.Entry.{Entry}
@@ -22,18 +22,19 @@ use Rattle.dia_breaking.specs.Sides.{Sides, answer, sides}
 use Rattle.dia_breaking.specs.TheLines.{HasTheLines}
 use Rattle.dia_breaking.specs.TheMeanings.{AreMeaningsOf, AreMeant, AreTheMeanings, HoldsOfLevels, IsReadAsSent}
 use Rattle.dia_upgrades.specs.declared.asked.Asked.{Asked}
-use Rattle.dia_upgrades.specs.declared.asked.Form.{Form}
 use Rattle.dia_upgrades.specs.declared.asked.Stale.TheVariants.{Fails}
 use Rattle.dia_upgrades.specs.declared.list.BadList.{BadList}
-use Rattle.dia_upgrades.specs.declared.reporting.Found.{Found}
-use Rattle.dia_upgrades.specs.declared.reporting.Found.TheVariants as found
+use Rattle.dia_upgrades.specs.declared.reporting.Counts.{Counts}
+use Rattle.dia_upgrades.specs.declared.reporting.Findings.{Findings}
+use Rattle.dia_upgrades.specs.declared.reporting.Findings.TheVariants as found
 use Rattle.dia_upgrades.specs.Asking.{names_of, IsAskedFor, AreCommands}
-use Rattle.dia_upgrades.specs.Forms.{said}
-use Rattle.dia_upgrades.specs.Lists.{IsListText, IsNoListText, list_line}
+use Rattle.dia_upgrades.specs.InWords.{in_words, nothing_breaks, nothing_differs, nothing_else_breaks, nothing_else_differs}
+use Rattle.dia_upgrades.specs.Lists.{IsListText, IsNoListText}
 use Rattle.dia_upgrades.specs.Places.{asked_places}
-use Rattle.dia_upgrades.specs.Stale.{AreStale, failing, stale_text}
+use Rattle.dia_upgrades.specs.Stale.{AreStale, failing}
 use Rattle.dia_upgrades.specs.Recorded.{AreShortest, AreRecorded, answer_written, words_at}
 use Rattle.dia_upgrades.specs.Rows.{Row, is_accepted, left_of, once_of, unused_of}
+use Rattle.dia_upgrades.specs.Writing.{Writing, stale_text}
 
 -- ---- what is claimed
 
@@ -87,40 +88,9 @@ NothingElseBreaks asked list a b = OfEach asked a (IsAcceptedWhole (sides_in ask
 abbrev pub AreAllRecorded : Asked → Dictionary → Dictionary → List Row → List Row → Type 0
 AreAllRecorded asked a b recorded apart = AreRecorded (sides_in asked a b) asked.messages asked.meaning (asked_places a (names_of asked)) recorded apart
 
-abbrev pub nothing_breaks : List ℕ
-nothing_breaks = codes "nothing breaks"
-
--- where the list accepts all that breaks
-abbrev pub nothing_else_breaks : List ℕ
-nothing_else_breaks = codes "nothing else breaks"
-
--- with `--meaning`
-abbrev pub nothing_differs : List ℕ
-nothing_differs = codes "nothing differs"
-
-abbrev pub nothing_else_differs : List ℕ
-nothing_else_differs = codes "nothing else differs"
-
--- where none is left of the lines, of which there are some or none
-abbrev pub nothing_for : Bool → Bool → List ℕ
-nothing_for meaning is_some = if is_some then (if meaning then nothing_else_differs else nothing_else_breaks) else (if meaning then nothing_differs else nothing_breaks)
-
--- where none of these lines is left
-abbrev pub nothing_left : Bool → List Row → List ℕ
-nothing_left meaning [] = nothing_for meaning false
-nothing_left meaning (recorded ∷ more) = nothing_for meaning true
-
--- what is reported of a dictionary without commands
-abbrev pub no_commands_line : List ℕ
-no_commands_line = codes "breaking: no command"
-
--- what is reported of a name that is no command's
-abbrev pub no_command_line : List ℕ → List ℕ
-no_command_line name = codes "breaking: no command " ++ name
-
--- it ends with these words, where words are written
-abbrev pub Records : Form → List ℕ → List ℕ → Exit → Type 0
-Records form recorded text exit = (text ≡ said form recorded) × (exit ≡ Bad)
+-- it ends with this text
+abbrev pub Records : List ℕ → List ℕ → Exit → Type 0
+Records recorded text exit = (text ≡ recorded) × (exit ≡ Bad)
 
 -- there are commands, and each name that is given is that of one
 pub record CanAsk (asked : Asked) (a : Dictionary) : Type 0 where
@@ -135,9 +105,22 @@ counted n = min n 18446744073709551615
 abbrev pub accepted_of : List PlainEntry → List Row → List Row
 accepted_of list recorded = filter (is_accepted list) recorded
 
+-- how much there is of all, where these lines are reported, and these entries are stale
+abbrev pub counts_of : List PlainEntry → List Row → List PlainEntry → Counts
+counts_of list recorded stale = record {
+  lines = counted (length (left_of list recorded));
+  causes = length (once_of (left_of list recorded));
+  accepted = counted (length (accepted_of list recorded));
+  stale = length stale;
+}
+
+-- what is written after the lines: the stale entries for which the answer is no, and how much there is of all
+abbrev pub after_lines : Writing → Asked → List PlainEntry → List Row → List PlainEntry → List ℕ
+after_lines w asked list recorded stale = stale_text w (failing asked.stale stale) ++ w.of_counts (counts_of list recorded stale)
+
 -- what was found has which entries of the list accept none of these, and which of them are stale, how many of the first are left and how many accepted, their causes,
 -- and the causes of the meanings that aren't asked for and that the list doesn't accept
-pub record RecordsFound (list : List PlainEntry) (recorded apart : List Row) (stale : List PlainEntry) (is : Found) : Type 0 where
+pub record RecordsFound (list : List PlainEntry) (recorded apart : List Row) (stale : List PlainEntry) (is : Findings) : Type 0 where
   pub unused : Vec Entry
   pub stale_ones : Vec Entry
   pub lines : ℕ
@@ -153,7 +136,7 @@ pub record RecordsFound (list : List PlainEntry) (recorded apart : List Row) (st
   pub meanings_are : map plain_recorded meanings.items ≡ once_of (left_of list apart)
 
 -- the inputs can be asked for, and the list, the lines and the stale entries are these
-pub record IsAnswerable (asked : Asked) (input : Input) (a b : Dictionary) (list : List PlainEntry) (recorded apart : List Row) (stale : List PlainEntry) (is : Found) : Type 0 where
+pub record IsAnswerable (asked : Asked) (input : Input) (a b : Dictionary) (list : List PlainEntry) (recorded apart : List Row) (stale : List PlainEntry) (is : Findings) : Type 0 where
   pub list_is : IsListText input list
   pub can_ask : CanAsk asked a
   pub all_recorded : AreAllRecorded asked a b recorded apart
@@ -161,30 +144,31 @@ pub record IsAnswerable (asked : Asked) (input : Input) (a b : Dictionary) (list
   pub records : RecordsFound list recorded apart stale is
 
 -- `breaking` of two dictionaries and a list: what is written, how it ends, and what was found
-pub data IsListed (asked : Asked) (input : Input) (a b : Dictionary) (text : List ℕ) (exit : Exit) (is : Found) : Type 0 where
+pub data IsListed (w : Writing) (asked : Asked) (input : Input) (a b : Dictionary) (text : List ℕ) (exit : Exit) (is : Findings) : Type 0 where
   nothing : (list : List PlainEntry) (apart : List Row) (stale : List PlainEntry) → IsAnswerable asked input a b list [] apart stale is → NothingBreaks asked a b → NothingDiffers asked a b
-      → failing asked.stale stale ≡ [] → text ≡ said asked.form (nothing_left asked.meaning []) → exit ≡ Yes → IsListed asked input a b text exit is
+      → failing asked.stale stale ≡ [] → text ≡ w.of_nothing asked.meaning false ++ w.of_counts (counts_of list [] stale) → exit ≡ Yes → IsListed w asked input a b text exit is
   nothing_else : (list : List PlainEntry) (recorded apart : List Row) (stale : List PlainEntry) → IsAnswerable asked input a b list recorded apart stale is → left_of list recorded ≡ [] → recorded ≢ []
-      → NothingElseBreaks asked list a b → failing asked.stale stale ≡ [] → text ≡ said asked.form (nothing_left asked.meaning recorded) → exit ≡ Yes → IsListed asked input a b text exit is
+      → NothingElseBreaks asked list a b → failing asked.stale stale ≡ [] → text ≡ w.of_nothing asked.meaning true ++ w.of_counts (counts_of list recorded stale) → exit ≡ Yes
+      → IsListed w asked input a b text exit is
   lines : (list : List PlainEntry) (recorded apart : List Row) (stale : List PlainEntry) → IsAnswerable asked input a b list recorded apart stale is
       → (left_of list recorded ≢ []) ⊎ (failing asked.stale stale ≢ [])
-      → text ≡ answer_written asked (left_of list recorded) ++ stale_text asked.form (failing asked.stale stale) → exit ≡ No → IsListed asked input a b text exit is
-  bad_list : (bad : BadList) → IsNoListText input bad → Records asked.form (list_line bad) text exit → is ≡ found.NoList bad → IsListed asked input a b text exit is
-  no_commands : (list : List PlainEntry) → IsListText input list → a.commands ≡ [] → Records asked.form no_commands_line text exit → is ≡ found.NoCommands
-      → IsListed asked input a b text exit is
+      → text ≡ answer_written w asked (left_of list recorded) ++ after_lines w asked list recorded stale → exit ≡ No → IsListed w asked input a b text exit is
+  bad_list : (bad : BadList) → IsNoListText input bad → Records (w.of_bad_list input bad) text exit → is ≡ found.NoList bad → IsListed w asked input a b text exit is
+  no_commands : (list : List PlainEntry) → IsListText input list → a.commands ≡ [] → Records w.of_no_commands text exit → is ≡ found.NoCommands
+      → IsListed w asked input a b text exit is
   no_command : (list : List PlainEntry) (name : List ℕ) → IsListText input list → a.commands ≢ [] → IsFirstUnknown a (names_of asked) name
-      → Records asked.form (no_command_line name) text exit → is ≡ found.NoCommand → IsListed asked input a b text exit is
+      → Records (w.of_no_command name) text exit → is ≡ found.NoCommand → IsListed w asked input a b text exit is
 
 -- the same, whatever was found
-abbrev pub IsAnyListed : Asked → Input → Dictionary → Dictionary → List ℕ → Exit → Type 0
-IsAnyListed asked input a b text exit = (is : Found) × IsListed asked input a b text exit is
+abbrev pub IsAnyListed : Writing → Asked → Input → Dictionary → Dictionary → List ℕ → Exit → Type 0
+IsAnyListed w asked input a b text exit = (is : Findings) × IsListed w asked input a b text exit is
 
 -- what was found has so many lines
-abbrev pub HasLines : Found → ℕ → Type 0
+abbrev pub HasLines : Findings → ℕ → Type 0
 HasLines is n = (unused : Vec Entry) × (stale : Vec Entry) × (accepted : ℕ) × (causes : Vec Recorded) × (meanings : Vec Recorded) × (is ≡ found.Listed unused stale n accepted causes meanings)
 
 -- what was found has no lines
-abbrev pub HasNoLines : Found → Type 0
+abbrev pub HasNoLines : Findings → Type 0
 HasNoLines (found.Listed unused stale n accepted causes meanings) = ⊥
 HasNoLines (found.NoList bad) = ⊤
 HasNoLines found.NoCommands = ⊤
@@ -197,13 +181,13 @@ AreLeft asked input a b n = (list : List PlainEntry) × (recorded : List Row) ×
 
 -- the list is refused, or the commands can't be asked for: so it ends
 abbrev pub CannotAnswer : Asked → Input → Dictionary → Dictionary → Type 0
-CannotAnswer asked input a b = (text : List ℕ) × (is : Found) × IsListed asked input a b text Bad is
+CannotAnswer asked input a b = (text : List ℕ) × (is : Findings) × IsListed in_words asked input a b text Bad is
 
--- `breaking` of the inputs
+-- `breaking` of the inputs, in words
 abbrev pub IsBreakingOutcome : Asked → Inputs → List ℕ → Exit → Type 0
-IsBreakingOutcome asked inputs text exit = IsPairOutcome (IsAnyListed asked inputs.table) inputs text exit
+IsBreakingOutcome asked inputs text exit = IsPairOutcome (IsAnyListed in_words asked inputs.table) inputs text exit
 
--- ---- how it ends
+-- ---- how it ends, in words
 
 -- the inputs are the texts of these dictionaries and of this list, and the commands can be asked for
 pub record AreRead (asked : Asked) (inputs : Inputs) (a b : Dictionary) (list : List PlainEntry) : Type 0 where
@@ -216,7 +200,7 @@ pub record AreRead (asked : Asked) (inputs : Inputs) (a b : Dictionary) (list : 
 abbrev pub IsUnsafeUpgrade : Asked → Inputs → List ℕ → Type 0
 IsUnsafeUpgrade asked inputs text = (a : Dictionary) × (b : Dictionary) × (list : List PlainEntry) × (recorded : List Row) × (apart : List Row) × (stale : List PlainEntry) × AreRead asked inputs a b list
     × AreAllRecorded asked a b recorded apart × AreStale asked a b list recorded apart stale × ((left_of list recorded ≢ []) ⊎ (failing asked.stale stale ≢ []))
-    × (text ≡ answer_written asked (left_of list recorded) ++ stale_text asked.form (failing asked.stale stale))
+    × (text ≡ answer_written in_words asked (left_of list recorded) ++ stale_text in_words (failing asked.stale stale))
 
 -- no entry is stale, where the answer is no for one
 abbrev pub NoneIsStale : Asked → Dictionary → Dictionary → List PlainEntry → Type 0
@@ -226,9 +210,9 @@ NoneIsStale asked a b list = asked.stale ≡ Fails → (recorded : List Row) × 
 -- nothing but what the list accepts; no entry of the list is stale; and what is written says which
 pub data IsSafeUpgrade (asked : Asked) (inputs : Inputs) (text : List ℕ) : Type 0 where
   safe : (a b : Dictionary) (list : List PlainEntry) → AreRead asked inputs a b list → NothingBreaks asked a b → NothingDiffers asked a b → NoneIsStale asked a b list
-      → text ≡ said asked.form (if asked.meaning then nothing_differs else nothing_breaks) → IsSafeUpgrade asked inputs text
+      → text ≡ line (if asked.meaning then nothing_differs else nothing_breaks) → IsSafeUpgrade asked inputs text
   accepted : (a b : Dictionary) (list : List PlainEntry) → AreRead asked inputs a b list → NothingElseBreaks asked list a b → NoneIsStale asked a b list
-      → text ≡ said asked.form (if asked.meaning then nothing_else_differs else nothing_else_breaks) → IsSafeUpgrade asked inputs text
+      → text ≡ line (if asked.meaning then nothing_else_differs else nothing_else_breaks) → IsSafeUpgrade asked inputs text
 
 -- the inputs are refused: one is no dictionary's text, or no list's; or the first has no commands, or none of a name that is given
 pub data AreRefused (asked : Asked) (inputs : Inputs) : Type 0 where

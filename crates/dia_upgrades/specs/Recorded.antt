@@ -27,8 +27,8 @@ use Rattle.dia_breaking.specs.Words.{words_of}
 use Rattle.dia_breaking.specs.Sides.{Sides, answer}
 use Rattle.dia_run.specs.Texts.{line}
 use Rattle.dia_upgrades.specs.declared.asked.Asked.{Asked}
-use Rattle.dia_upgrades.specs.Forms.{cause_in, line_in}
 use Rattle.dia_upgrades.specs.Rows.{Cause, Row, causes_of, digits_line}
+use Rattle.dia_upgrades.specs.Writing.{Writing, cause_in, line_in}
 
 -- the list is one of the first, then one of the second, and so on
 abbrev pub AreParts : {X Y : Type 0} → (X → List Y → Type 0) → List X → List Y → Type 0
@@ -74,17 +74,17 @@ abbrev pub IsLineRecorded : ℕ → Bool → (Line → Says) → (Line → List 
 IsLineRecorded place messages says are line recorded =
     (digits : Option (List ℕ)) × IsAfter (are line) (has_message messages line.standing) (digits_line digits) × (recorded ≡ row_of place (says line) digits ∷ [])
 
--- the lines in the form that is asked for
-abbrev pub written : Asked → List Row → List ℕ
-written asked recorded = flat_map (line_in asked.form) recorded
+-- the text of lines
+abbrev pub written : Writing → List Row → List ℕ
+written w recorded = flat_map (line_in w) recorded
 
--- the causes in this form
-abbrev pub causes_written : Asked → List Cause → List ℕ
-causes_written asked causes = flat_map (cause_in asked.form) causes
+-- the text of causes
+abbrev pub causes_written : Writing → List Cause → List ℕ
+causes_written w causes = flat_map (cause_in w) causes
 
 -- what is written of the lines that are left: these lines, or with `--once` one for each cause
-abbrev pub answer_written : Asked → List Row → List ℕ
-answer_written asked left = if asked.once then causes_written asked (causes_of left) else written asked left
+abbrev pub answer_written : Writing → Asked → List Row → List ℕ
+answer_written w asked left = if asked.once then causes_written w (causes_of left) else written w left
 
 -- ---- a command
 

@@ -11,6 +11,7 @@ use Rattle.dia_run.specs.Texts.{IsDictionaryText, IsNoDictionaryText}
 use Rattle.dia_upgrades.specs.declared.asked.Asked.{Asked}
 use Rattle.dia_upgrades.specs.declared.reporting.Report.{Report}
 use Rattle.dia_upgrades.specs.declared.reporting.Report.TheVariants.{Refused, Read}
+use Rattle.dia_upgrades.specs.InWords.{in_words}
 use Rattle.dia_upgrades.specs.Outcome.{IsListed}
 
 abbrev pub IsRefusedFirst : Inputs → List ℕ → Type 0
@@ -23,7 +24,7 @@ IsRefusedSecond inputs recorded = (why : List ℕ) × IsNoDictionaryText inputs.
 abbrev pub IsReport : (IndexedBook → Dictionary) → Asked → Inputs → Report → List ℕ → Exit → Type 0
 IsReport meaning asked inputs (Refused bad) text exit = Refuses (bad_input_text bad) text exit
 IsReport meaning asked inputs (Read books is) text exit =
-    AreReadFrom meaning inputs books × IsListed asked inputs.table (meaning books.first.value.book) (meaning books.second.value.book) text exit is
+    AreReadFrom meaning inputs books × IsListed in_words asked inputs.table (meaning books.first.value.book) (meaning books.second.value.book) text exit is
 
 -- a dictionary is refused, in these words
 abbrev pub IsRefusedText : Inputs → List ℕ → Type 0

@@ -1,5 +1,5 @@
 -- The lines of an answer, each with its parts: what a list accepts of them, and their causes.
-use Rattle.std.specs.Prelude.{ℕ, nat_eq, ◌++◌, not, Bool, if◌then◌else◌, List, [], codes, filter, map, Option}
+use Rattle.std.specs.Prelude.{ℕ, nat_eq, ◌++◌, not, Bool, List, [], codes, filter, map, Option}
 use Rattle.std.specs.List.{list_any}
 use Rattle.std.specs.Option.{option_map_or}
 use Rattle.dia_accepted.specs.declared.accepting.Accepting.{Accepting}

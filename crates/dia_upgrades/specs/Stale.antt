@@ -1,6 +1,5 @@
 -- Which entries of the list of accepted lines are stale, and what is done about them.
-use Rattle.std.specs.Prelude.{◌≡◌, ◌⊎◌, false, List, [], ◌++◌, ℕ, codes, filter}
-use Rattle.std.specs.List.{flat_map}
+use Rattle.std.specs.Prelude.{◌≡◌, ◌⊎◌, false, List, [], ◌++◌, filter}
 use Rattle.dia_accepted.specs.Accepted.{PlainEntry, is_about}
 use Rattle.dia_book.specs.Dictionary.{Dictionary}
 use Rattle.dia_breaking.specs.Sides.{sides}
@@ -8,10 +7,7 @@ use Rattle.dia_terms.specs.declared.Sends.{Sends}
 use Rattle.dia_terms.specs.declared.Sends.TheVariants as sent
 use Rattle.dia_terms.specs.declared.Unknown.{Unknown}
 use Rattle.dia_terms.specs.declared.Unknown.TheVariants as unknowns
-use Rattle.dia_run.specs.Texts.{line}
 use Rattle.dia_upgrades.specs.declared.asked.Asked.{Asked}
-use Rattle.dia_upgrades.specs.declared.asked.Form.{Form}
-use Rattle.dia_upgrades.specs.declared.asked.Form.TheVariants.{Text, Json}
 use Rattle.dia_upgrades.specs.declared.asked.Stale.{Stale}
 use Rattle.dia_upgrades.specs.declared.asked.Stale.TheVariants.{Fails, Allowed, Ignored}
 use Rattle.dia_upgrades.specs.Asking.{names_of}
@@ -62,11 +58,3 @@ abbrev pub failing : Stale → List PlainEntry → List PlainEntry
 failing Fails stale = stale
 failing Allowed stale = []
 failing Ignored stale = []
-
-abbrev pub stale_line : PlainEntry → List ℕ
-stale_line e = line (codes "stale: " ++ e.words)
-
--- what is written of them after all lines: nothing as JSON
-abbrev pub stale_text : Form → List PlainEntry → List ℕ
-stale_text Text stale = flat_map stale_line stale
-stale_text (Json names) stale = []

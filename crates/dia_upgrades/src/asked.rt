@@ -1,17 +1,6 @@
 //! What the command is asked for.
 
-use dia_breaking_json::Names;
 use dia_terms::{Sends, Unknown};
-
-/// The form in which lines are written.
-#[derive(Clone, Copy)]
-pub enum Form<'a, 's> {
-    /// In words, each line followed by its message on a line of its own.
-    Text,
-    /// As JSON: an object for each line, with the AVPs and the texts of the two dictionaries. What words report of the whole answer
-    /// isn't written.
-    Json(&'a Names<'s>),
-}
 
 /// What is done about stale entries of the list of accepted lines.
 #[derive(Clone, Copy)]
@@ -26,7 +15,7 @@ pub enum Stale {
 
 /// What `breaking` is to list.
 #[derive(Clone, Copy)]
-pub struct Asked<'a, 's> {
+pub struct Asked<'a> {
     /// What the side of the first dictionary sends.
     pub sends: Sends,
     /// What the side of the second does with AVPs that its dictionary doesn't know.
@@ -38,7 +27,6 @@ pub struct Asked<'a, 's> {
     /// Whether AVPs that are read as another format are lines, too.
     pub meaning: bool,
     pub stale: Stale,
-    pub form: Form<'a, 's>,
     /// The commands of the first dictionary that are listed: all where none is named.
     pub names: &'a [String],
 }

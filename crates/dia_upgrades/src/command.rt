@@ -13,7 +13,8 @@ ghost use Rattle.dia_upgrades.specs.UnderWay.{Reports};
 
 use crate::asked::Asked;
 use crate::judging::breaking_of;
-use crate::reporting::{Listed, Report, Reported};
+use crate::reporting::{BooksAnswer, BreakingAnswer, Report};
+use crate::words::InWords;
 use dia_dict::{Book, IndexedBook};
 use dia_io::{Exit, Inputs, RunFault, Sink, put_all};
 use dia_report::{BadInput, BothBooks, Refused};
@@ -32,10 +33,10 @@ use std::alloc::Global;
 /// they are written after all.
 pub fn breaking<S: Sink>(
     alloc: Global,
-    asked: Asked<'_, '_>,
+    asked: Asked<'_>,
     inputs: &Inputs,
     sink: &mut S,
-) -> Result<Reported, RunFault>
+) -> Result<BreakingAnswer, RunFault>
     requires { ¬ IsTrue (S.has_failed sink.old) }
     ensures text { IfOk result
         (λ reported. (text : List ℕ) × IsBreakingOutcome asked.entry inputs.now text reported.exit
@@ -65,10 +66,10 @@ pub fn breaking<S: Sink>(
 /// The same, in one clause.
 fn reported<S: Sink>(
     alloc: Global,
-    asked: Asked<'_, '_>,
+    asked: Asked<'_>,
     inputs: &Inputs,
     sink: &mut S,
-) -> Result<Reported, RunFault>
+) -> Result<BreakingAnswer, RunFault>
     requires { ¬ IsTrue (S.has_failed sink.old) }
     ensures reports { Reports ⟦<IndexedBook as Book>⟧.meaning asked.entry inputs.now
         (S.written sink.old) (S.written sink.new) result }
@@ -94,30 +95,31 @@ fn read_both(alloc: Global, inputs: &Inputs) -> Result<BothBooks, Refused>
 /// Lists what breaks over dictionaries that were read.
 fn over_books<S: Sink>(
     alloc: Global,
-    asked: Asked<'_, '_>,
+    asked: Asked<'_>,
     inputs: &Inputs,
     books: BothBooks,
     sink: &mut S,
-) -> Result<Reported, RunFault>
+) -> Result<BreakingAnswer, RunFault>
     requires { ¬ IsTrue (S.has_failed sink.old) }
     ensures reports { AreReadFrom ⟦<IndexedBook as Book>⟧.meaning inputs.now books
         → Reports ⟦<IndexedBook as Book>⟧.meaning asked.entry inputs.now (S.written sink.old) (S.written sink.new) result }
     ensures device { (result ≡ Err RunFault.Device) ↔ IsTrue (S.has_failed sink.new) }
 {
-    let Listed { exit, found } = breaking_of(
+    let BooksAnswer { exit, found } = breaking_of(
         alloc,
         asked,
+        &InWords,
         &inputs.table,
         &books.first.book,
         &books.second.book,
         sink,
     )?;
     let report = Report::Read { books, found };
-    Ok(Reported { exit, report })
+    Ok(BreakingAnswer { exit, report })
 }
 
 /// Writes the line of a dictionary that is refused.
-fn refused<S: Sink>(alloc: Global, bad: BadInput, sink: &mut S) -> Result<Reported, RunFault>
+fn refused<S: Sink>(alloc: Global, bad: BadInput, sink: &mut S) -> Result<BreakingAnswer, RunFault>
     requires { ¬ IsTrue (S.has_failed sink.old) }
     ensures put { IfOk result (λ reported. Appends (S.written sink.old) (S.written sink.new) (line (bad_input_text bad))) }
     ensures exit { IfOk result (λ reported. reported.exit ≡ Exit.Bad) }
@@ -131,5 +133,5 @@ fn refused<S: Sink>(alloc: Global, bad: BadInput, sink: &mut S) -> Result<Report
     put_all(sink, text.as_bytes())?;
     let exit = Exit::Bad;
     let report = Report::Refused(bad);
-    Ok(Reported { exit, report })
+    Ok(BreakingAnswer { exit, report })
 }

@@ -6,7 +6,8 @@ ghost use Rattle.dia_upgrades.specs.Outcome.{AreLeft, CannotAnswer, HasLines, Ha
 use crate::asked::Asked;
 use crate::judging::breaking_of;
 use crate::nowhere::Nowhere;
-use crate::reporting::Found;
+use crate::reporting::Findings;
+use crate::words::InWords;
 use dia_dict::{Book, IndexedBook};
 use dia_io::{Input, RunFault};
 use dia_report::BothBooks;
@@ -17,7 +18,7 @@ use std::alloc::{AllocError, Global};
 /// commands, or of a name.
 pub fn lines_left(
     alloc: Global,
-    asked: Asked<'_, '_>,
+    asked: Asked<'_>,
     input: &Input,
     books: &BothBooks,
 ) -> Result<Option<usize>, AllocError>
@@ -32,6 +33,7 @@ pub fn lines_left(
     match breaking_of(
         alloc,
         asked,
+        &InWords,
         input,
         &books.first.book,
         &books.second.book,
@@ -43,14 +45,14 @@ pub fn lines_left(
     }
 }
 
-fn count_of(found: &Found) -> Option<usize>
+fn count_of(found: &Findings) -> Option<usize>
     ensures some { IfSome result (HasLines found.now) }
     ensures none { IsNone result → HasNoLines found.now }
 {
     match found {
-        Found::Listed { lines, .. } => Some(*lines),
-        Found::NoList(_) => None,
-        Found::NoCommands => None,
-        Found::NoCommand => None,
+        Findings::Listed { lines, .. } => Some(*lines),
+        Findings::NoList(_) => None,
+        Findings::NoCommands => None,
+        Findings::NoCommand => None,
     }
 }

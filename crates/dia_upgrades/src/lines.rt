@@ -13,6 +13,7 @@ ghost use Rattle.dia_upgrades.specs.UnderWay.{SeesApart, Occurs, OccursAfter, Oc
 ghost use Rattle.dia_upgrades.specs.Places.{IsEachNew};
 ghost use Rattle.dia_upgrades.specs.Recorded.{AreParts, IsRecordedOf};
 ghost use Rattle.dia_upgrades.specs.Rows.{Row};
+ghost use Rattle.dia_upgrades.specs.Writing.{Writing};
 
 use crate::asked::Asked;
 use crate::naming::are_distinct;
@@ -20,6 +21,7 @@ use crate::pending::Pending;
 use crate::seen::Seen;
 use crate::showing::{apart_of, see_line, shown_of};
 use crate::shown::add_shown;
+use crate::writer::LineWriter;
 use dia_accepted::Entry;
 use dia_breaking::{Breaks, Line, MOST_CHECKED_TOGETHER, Upgrade};
 use dia_dict::Book;
@@ -38,26 +40,36 @@ pub(crate) struct Listing<'l> {
 
 /// Puts the lines of the commands at these places of A's commands, as they are found, and answers what is known of them. Where
 /// memory is refused, the lines so far are put.
-pub(crate) fn put_lines<'l, A: Book, B: Book, S: Sink>(
+pub(crate) fn put_lines<'l, A: Book, B: Book, S: Sink, W: LineWriter>(
     alloc: Global,
     sink: &mut S,
     upgrade: &'l Upgrade<'_, A, B>,
     places: &[usize],
-    asked: Asked<'_, '_>,
+    asked: Asked<'_>,
+    writer: &W,
     list: &'l [Entry],
 ) -> Result<Box<Listing<'l>>, RunFault>
     requires sound { ¬ IsTrue (S.has_failed sink.old) }
     requires places { All (λ place. place < length (sides_of upgrade.now).sender.commands) places.now }
-    ensures all { IfOk result (λ listing. AreAllPut (sides_of upgrade.now) asked.entry (map plain_entry list.now) places.now
+    ensures all { IfOk result (λ listing. AreAllPut (W.writes writer.now) (sides_of upgrade.now) asked.entry (map plain_entry list.now) places.now
         (S.written sink.old) (S.written sink.new) listing.value.seen) }
     ensures front { IfErr result (λ fault. (first : List Row)
         × AreFirstLines (sides_of upgrade.now) asked.entry (map plain_entry list.now) places.now first
-        × OccursPut fault (S.written sink.old) (S.written sink.new) (text_shown asked.entry first)) }
+        × OccursPut fault (S.written sink.old) (S.written sink.new) (text_shown (W.writes writer.now) asked.entry first)) }
     ensures device { (result ≡ Err Device) ↔ IsTrue (S.has_failed sink.new) }
 {
     let forgets = are_distinct(alloc, places)?;
     let mut listing = begun(alloc, list)?;
-    let found = put_commands(alloc, &mut listing, sink, upgrade, places, asked, forgets);
+    let found = put_commands(
+        alloc,
+        &mut listing,
+        sink,
+        upgrade,
+        places,
+        asked,
+        writer,
+        forgets,
+    );
     put_rest(&mut listing.pending, sink, found)?;
     Ok(listing)
 }
@@ -65,8 +77,8 @@ pub(crate) fn put_lines<'l, A: Book, B: Book, S: Sink>(
 /// No line is listed yet. What is known of lines owns much, so it is in a box.
 fn begun(alloc: Global, list: &[Entry]) -> Result<Box<Listing<'_>>, AllocError>
     ensures budget { IfOk result (λ listing. listing.value.budget ≡ most_checked_together) }
-    ensures way { IfOk result (λ listing. (asked : AnyAsked) (forgets : Bool) (put : Option (List ℕ))
-        → IsUnderWay asked forgets (map plain_entry list.now) 0 0 put put listing.value [] []) }
+    ensures way { IfOk result (λ listing. (w : Writing) (asked : AnyAsked) (forgets : Bool) (put : Option (List ℕ))
+        → IsUnderWay w asked forgets (map plain_entry list.now) 0 0 put put listing.value [] []) }
 {
     let seen = Seen::new(alloc, list)?;
     let listing = Listing {
@@ -103,51 +115,53 @@ fn put_rest<S: Sink>(
 }
 
 /// Puts the lines of the commands at these places.
-fn put_commands<'l, A: Book, B: Book, S: Sink>(
+fn put_commands<'l, A: Book, B: Book, S: Sink, W: LineWriter>(
     alloc: Global,
     listing: &mut Listing<'l>,
     sink: &mut S,
     upgrade: &'l Upgrade<'_, A, B>,
     places: &[usize],
-    asked: Asked<'_, '_>,
+    asked: Asked<'_>,
+    writer: &W,
     forgets: bool,
 ) -> Result<(), RunFault>
     requires sound { ¬ IsTrue (S.has_failed sink.old) }
     requires places { All (λ place. place < length (sides_of upgrade.now).sender.commands) places.now }
     ensures all { OnOk result ((list : List PlainEntry) (begun : Option (List ℕ)) (place : ℕ) → (forgets ≡ true → IsEachNew places.now)
         → listing.old.budget ≡ most_checked_together
-        → IsUnderWay asked.entry forgets list place 0 begun (S.written sink.old) listing.old [] []
-        → AreUnderWay (sides_of upgrade.now) asked.entry forgets list places.now begun (S.written sink.new) listing.new) }
+        → IsUnderWay (W.writes writer.now) asked.entry forgets list place 0 begun (S.written sink.old) listing.old [] []
+        → AreUnderWay (W.writes writer.now) (sides_of upgrade.now) asked.entry forgets list places.now begun (S.written sink.new) listing.new) }
     ensures stops { IfErr result (λ fault. (list : List PlainEntry) (begun : Option (List ℕ)) (place : ℕ) → (forgets ≡ true → IsEachNew places.now)
         → listing.old.budget ≡ most_checked_together
-        → IsUnderWay asked.entry forgets list place 0 begun (S.written sink.old) listing.old [] []
+        → IsUnderWay (W.writes writer.now) asked.entry forgets list place 0 begun (S.written sink.old) listing.old [] []
         → (first : List Row) × AreFirstLines (sides_of upgrade.now) asked.entry list places.now first
-        × Occurs fault begun (S.written sink.new) listing.new.pending (text_shown asked.entry first)) }
+        × Occurs fault begun (S.written sink.new) listing.new.pending (text_shown (W.writes writer.now) asked.entry first)) }
     ensures device { (result ≡ Err Device) ↔ IsTrue (S.has_failed sink.new) }
 {
     for place in places {
         listing.seen.begin(forgets);
-        put_command(alloc, listing, sink, upgrade, *place, asked)?;
+        put_command(alloc, listing, sink, upgrade, *place, asked, writer)?;
     }
     Ok(())
 }
 
 /// Puts the lines of a command of A, by its place among the commands.
-fn put_command<'l, A: Book, B: Book, S: Sink>(
+fn put_command<'l, A: Book, B: Book, S: Sink, W: LineWriter>(
     alloc: Global,
     listing: &mut Listing<'l>,
     sink: &mut S,
     upgrade: &'l Upgrade<'_, A, B>,
     place: usize,
-    asked: Asked<'_, '_>,
+    asked: Asked<'_>,
+    writer: &W,
 ) -> Result<(), RunFault>
     requires sound { ¬ IsTrue (S.has_failed sink.old) }
     requires place { place < length (sides_of upgrade.now).sender.commands }
     ensures all { OnOk result ((recorded apart : List Row)
         × IsRecordedOf (sides_of upgrade.now) (stock_of upgrade.now) asked.entry.messages asked.entry.meaning
         (facts_of upgrade.now).lengths place listing.old.budget listing.new.budget recorded apart
-        × GoesOn asked.entry place (S.written sink.old) (S.written sink.new) listing.old listing.new recorded apart) }
-    ensures stops { IfErr result (λ fault. StopsIn (sides_of upgrade.now) (stock_of upgrade.now) asked.entry
+        × GoesOn (W.writes writer.now) asked.entry place (S.written sink.old) (S.written sink.new) listing.old listing.new recorded apart) }
+    ensures stops { IfErr result (λ fault. StopsIn (W.writes writer.now) (sides_of upgrade.now) (stock_of upgrade.now) asked.entry
         (facts_of upgrade.now).lengths place fault (S.written sink.old) (S.written sink.new) listing.old listing.new) }
     ensures device { (result ≡ Err Device) ↔ IsTrue (S.has_failed sink.new) }
 {
@@ -156,13 +170,15 @@ fn put_command<'l, A: Book, B: Book, S: Sink>(
     let shown = shown_of(alloc, &breaks, asked.meaning)?;
     let lines = shown.as_slice();
     let apart = apart_of(breaks.meanings.as_slice(), asked.meaning);
-    put_each(alloc, listing, sink, upgrade, &breaks, lines, place, asked)?;
+    put_each(
+        alloc, listing, sink, upgrade, &breaks, lines, place, asked, writer,
+    )?;
     see_each_apart(alloc, &mut listing.seen, upgrade, &breaks, apart, place)?;
     Ok(())
 }
 
 /// Puts these lines of a command.
-fn put_each<'l, A: Book, B: Book, S: Sink>(
+fn put_each<'l, A: Book, B: Book, S: Sink, W: LineWriter>(
     alloc: Global,
     listing: &mut Listing<'l>,
     sink: &mut S,
@@ -170,25 +186,28 @@ fn put_each<'l, A: Book, B: Book, S: Sink>(
     breaks: &Breaks,
     lines: &[Line],
     place: usize,
-    asked: Asked<'_, '_>,
+    asked: Asked<'_>,
+    writer: &W,
 ) -> Result<(), RunFault>
     requires { ¬ IsTrue (S.has_failed sink.old) }
     ensures all { OnOk result ((recorded : List Row)
         × AreParts (IsRecordedIn upgrade.now breaks.now place asked.entry.messages) lines.now recorded
-        × GoesOn asked.entry place (S.written sink.old) (S.written sink.new) listing.old listing.new recorded []) }
-    ensures stops { IfErr result (λ fault. StopsAmong asked.entry place fault (S.written sink.old) (S.written sink.new)
+        × GoesOn (W.writes writer.now) asked.entry place (S.written sink.old) (S.written sink.new) listing.old listing.new recorded []) }
+    ensures stops { IfErr result (λ fault. StopsAmong (W.writes writer.now) asked.entry place fault (S.written sink.old) (S.written sink.new)
         listing.old listing.new (IsRecordedIn upgrade.now breaks.now place asked.entry.messages) lines.now) }
     ensures budget { listing.new.budget ≡ listing.old.budget }
     ensures device { (result ≡ Err Device) ↔ IsTrue (S.has_failed sink.new) }
 {
     for line in lines {
-        put_line(alloc, listing, sink, upgrade, breaks, line, place, asked)?;
+        put_line(
+            alloc, listing, sink, upgrade, breaks, line, place, asked, writer,
+        )?;
     }
     Ok(())
 }
 
 /// Puts a line of a command, unless the list accepts it or each cause has one line.
-fn put_line<'l, A: Book, B: Book, S: Sink>(
+fn put_line<'l, A: Book, B: Book, S: Sink, W: LineWriter>(
     alloc: Global,
     listing: &mut Listing<'l>,
     sink: &mut S,
@@ -196,13 +215,14 @@ fn put_line<'l, A: Book, B: Book, S: Sink>(
     breaks: &Breaks,
     line: &Line,
     place: usize,
-    asked: Asked<'_, '_>,
+    asked: Asked<'_>,
+    writer: &W,
 ) -> Result<(), RunFault>
     requires { ¬ IsTrue (S.has_failed sink.old) }
     ensures all { OnOk result ((t : Row)
         × IsRecordedIn upgrade.now breaks.now place asked.entry.messages line.now (t ∷ [])
-        × GoesOn asked.entry place (S.written sink.old) (S.written sink.new) listing.old listing.new (t ∷ []) []) }
-    ensures stops { IfErr result (λ fault. StopsAmong asked.entry place fault (S.written sink.old) (S.written sink.new)
+        × GoesOn (W.writes writer.now) asked.entry place (S.written sink.old) (S.written sink.new) listing.old listing.new (t ∷ []) []) }
+    ensures stops { IfErr result (λ fault. StopsAmong (W.writes writer.now) asked.entry place fault (S.written sink.old) (S.written sink.new)
         listing.old listing.new (IsRecordedIn upgrade.now breaks.now place asked.entry.messages) (line.now ∷ [])) }
     ensures budget { listing.new.budget ≡ listing.old.budget }
     ensures device { (result ≡ Err Device) ↔ IsTrue (S.has_failed sink.new) }
@@ -215,6 +235,7 @@ fn put_line<'l, A: Book, B: Book, S: Sink>(
         line,
         place,
         asked,
+        writer,
     )?;
     add_shown(&mut listing.pending, sink, &shown)?;
     Ok(())

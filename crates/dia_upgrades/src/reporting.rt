@@ -5,9 +5,22 @@ use dia_accepted::{Entry, Recorded};
 use dia_io::Exit;
 use dia_report::{BadInput, BothBooks};
 
+/// How much there is of all.
+#[derive(Clone, Copy)]
+pub struct Counts {
+    /// How many lines the list leaves; where there are more than can be counted, the greatest number.
+    pub lines: usize,
+    /// How many causes these have.
+    pub causes: usize,
+    /// How many lines the list accepts, counted in the same way.
+    pub accepted: usize,
+    /// How many entries of the list are stale.
+    pub stale: usize,
+}
+
 /// What was found of two dictionaries and a list of accepted lines.
 #[derive(Drop)]
-pub enum Found {
+pub enum Findings {
     /// What breaks was listed.
     Listed {
         /// The entries of the list of accepted lines that accept nothing of it.
@@ -36,7 +49,7 @@ pub enum Found {
 pub enum Report {
     /// A dictionary is refused.
     Refused(BadInput),
-    Read { books: BothBooks, found: Found },
+    Read { books: BothBooks, found: Findings },
 }
 
 // Written out: for a derived `Drop`, each crate that drops this type proves the drops of all its parts again.
@@ -51,14 +64,14 @@ impl Drop for Report {
 
 /// How it ended, once the text is written, and the report.
 #[derive(Drop)]
-pub struct Reported {
+pub struct BreakingAnswer {
     pub exit: Exit,
     pub report: Report,
 }
 
 /// How it ended over two dictionaries that were read, once the text is written, and what was found.
 #[derive(Drop)]
-pub struct Listed {
+pub struct BooksAnswer {
     pub exit: Exit,
-    pub found: Found,
+    pub found: Findings,
 }

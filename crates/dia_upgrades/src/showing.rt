@@ -6,32 +6,33 @@ ghost use Rattle.dia_breaking.specs.Upgrades.{other_length_of, sides_of};
 ghost use Rattle.dia_upgrades.specs.Recorded.{AreShown, IsAfter, apart_of, has_message, message_line, place_of};
 ghost use Rattle.dia_upgrades.specs.Recorded.{Says, row_of, says_of};
 ghost use Rattle.dia_upgrades.specs.UnderWay.{IsMessageIn, IsRecordedIn, IsStored, Sees, digits_text, plain_digits, shown_text};
-ghost use Rattle.dia_upgrades.specs.Forms.{line_in};
 ghost use Rattle.dia_upgrades.specs.Rows.{Row};
+ghost use Rattle.dia_upgrades.specs.Writing.{line_in};
 
-use crate::asked::{Asked, Form};
+use crate::asked::Asked;
 use crate::seen::{First, Seen};
-use crate::shown::{digits_in, in_words};
+use crate::shown::digits_in;
+use crate::writer::LineWriter;
 use dia_accepted::Causes;
 use dia_breaking::{Breaks, Line, Standing, Upgrade};
-use dia_breaking_json::line_object;
 use dia_dict::Book;
 use std::alloc::{AllocError, Global};
 
 /// Sees a line of a command, and answers what is written of it now: where the list accepts it, and where each cause is one line,
 /// nothing.
-pub(crate) fn see_line<'u, A: Book, B: Book>(
+pub(crate) fn see_line<'u, A: Book, B: Book, W: LineWriter>(
     alloc: Global,
     seen: &mut Seen<'u>,
     upgrade: &'u Upgrade<'_, A, B>,
     breaks: &Breaks,
     line: &Line,
     place: usize,
-    asked: Asked<'_, '_>,
+    asked: Asked<'_>,
+    writer: &W,
 ) -> Result<Option<String>, AllocError>
     ensures { IfOk result (λ shown. (t : Row)
         × IsRecordedIn upgrade.now breaks.now place asked.entry.messages line.now (t ∷ [])
-        × Sees asked.entry place seen.old seen.new t (shown_text shown)) }
+        × Sees (W.writes writer.now) asked.entry place seen.old seen.new t (shown_text shown)) }
 {
     let mut words = String::new(alloc);
     upgrade.push_words(alloc, &mut words, breaks, line)?;
@@ -58,14 +59,14 @@ pub(crate) fn see_line<'u, A: Book, B: Book>(
     }
     let digits = digits_of(alloc, upgrade, breaks, line, messages)?;
     seen.causes.add(alloc, place, recorded, none)?;
-    let shown = in_form(alloc, asked, upgrade, breaks, line, recorded, &digits)?;
+    let shown = line_text(alloc, writer, upgrade, breaks, line, recorded, &digits)?;
     Ok(Some(shown))
 }
 
-/// A line in the form that is asked for.
-fn in_form<A: Book, B: Book>(
+/// What is written of a line.
+fn line_text<A: Book, B: Book, W: LineWriter>(
     alloc: Global,
-    asked: Asked<'_, '_>,
+    writer: &W,
     upgrade: &Upgrade<'_, A, B>,
     breaks: &Breaks,
     line: &Line,
@@ -75,16 +76,12 @@ fn in_form<A: Book, B: Book>(
     ensures { IfOk result (λ shown. (place : ℕ) (says : Says) → says ≡ says_of
         (sides_of upgrade.now) (other_length_of upgrade.now) breaks.now.command breaks.now.sites.items line.now
         → says.words ≡ words.now
-        → string_bytes shown ≡ line_in asked.entry.form (row_of place says (plain_digits digits.now))) }
+        → string_bytes shown ≡ line_in (W.writes writer.now) (row_of place says (plain_digits digits.now))) }
 {
-    match asked.form {
-        Form::Text => in_words(alloc, words, digits),
-        Form::Json(names) => {
-            let parts = upgrade.parts(alloc, breaks, line)?;
-            let object = line_object(alloc, names, &parts, words, digits_in(digits))?;
-            format!(in alloc; "{object}\n")
-        }
-    }
+    let parts = upgrade.parts(alloc, breaks, line)?;
+    let mut text = String::new(alloc);
+    writer.write_line(alloc, &mut text, words, &parts, digits_in(digits))?;
+    Ok(text)
 }
 
 /// Stores a line of a cause that isn't known yet, and its message, if messages are asked for.

@@ -1,15 +1,12 @@
 //! What is written of a line.
 
-ghost use Rattle.std.specs.Prelude.{◌≡◌, ◌↔◌, ◌++◌, List, ℕ, Option, IfOk, IsErr, IsTrue, OnOk, string_bytes};
+ghost use Rattle.std.specs.Prelude.{◌≡◌, ◌↔◌, ◌++◌, List, ℕ, Option, IsErr, IsTrue, OnOk};
 ghost use Rattle.std.specs.Option.{option_map};
 ghost use Rattle.dia_io.specs.Writing.{AppendsFront};
-ghost use Rattle.dia_run.specs.Texts.{line};
-ghost use Rattle.dia_upgrades.specs.Rows.{digits_line};
 ghost use Rattle.dia_upgrades.specs.UnderWay.{IsPut, plain_digits, shown_text};
 
 use crate::pending::Pending;
 use dia_io::{Failed, Sink};
-use std::alloc::{AllocError, Global};
 
 /// Adds the text of a line, if it is written.
 pub(crate) fn add_shown<S: Sink>(
@@ -29,20 +26,6 @@ pub(crate) fn add_shown<S: Sink>(
     match shown {
         Some(shown) => pending.add(sink, shown.as_bytes()),
         None => Ok(()),
-    }
-}
-
-/// The words of a line, and its message, if it has one, on a line of its own.
-pub(crate) fn in_words(
-    alloc: Global,
-    words: &str,
-    digits: &Option<String>,
-) -> Result<String, AllocError>
-    ensures { IfOk result (λ text. string_bytes text ≡ line words.now ++ digits_line (plain_digits digits.now)) }
-{
-    match digits {
-        Some(digits) => format!(in alloc; "{words}\n  {digits}\n"),
-        None => format!(in alloc; "{words}\n"),
     }
 }
 

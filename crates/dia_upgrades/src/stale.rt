@@ -9,9 +9,10 @@ ghost use Rattle.dia_upgrades.specs.Stale.{AreLookedFor, AreUnused, AreUnusedBy,
 ghost use Rattle.dia_upgrades.specs.Recorded.{AreRecorded};
 ghost use Rattle.dia_upgrades.specs.Rows.{Row, unused_of};
 
-use crate::asked::{Asked, Form, Stale};
+use crate::asked::{Asked, Stale};
 use crate::lines::put_lines;
 use crate::nowhere::Nowhere;
+use crate::words::InWords;
 use dia_accepted::{Entry, about};
 use dia_breaking::Upgrade;
 use dia_dict::Book;
@@ -23,7 +24,7 @@ use std::alloc::{AllocError, Global};
 /// lines of other policies are found, too.
 pub(crate) fn stale_of<A: Book, B: Book>(
     alloc: Global,
-    asked: Asked<'_, '_>,
+    asked: Asked<'_>,
     a: &A,
     b: &B,
     commands: &[usize],
@@ -44,7 +45,7 @@ pub(crate) fn stale_of<A: Book, B: Book>(
 /// Those of the entries that are about a command that is asked for, and accept no line of any policies.
 fn look_for<A: Book, B: Book>(
     alloc: Global,
-    asked: Asked<'_, '_>,
+    asked: Asked<'_>,
     a: &A,
     b: &B,
     commands: &[usize],
@@ -64,7 +65,7 @@ fn look_for<A: Book, B: Book>(
 /// Those of the entries that accept no line where A's side sends this.
 fn unused_by<A: Book, B: Book>(
     alloc: Global,
-    asked: Asked<'_, '_>,
+    asked: Asked<'_>,
     sends: Sends,
     a: &A,
     b: &B,
@@ -82,7 +83,7 @@ fn unused_by<A: Book, B: Book>(
 /// Those of the entries that accept no line of these policies. With the policies that are asked for they accept none.
 fn unused_with<A: Book, B: Book>(
     alloc: Global,
-    asked: Asked<'_, '_>,
+    asked: Asked<'_>,
     sends: Sends,
     unknown: Unknown,
     a: &A,
@@ -104,7 +105,7 @@ fn unused_with<A: Book, B: Book>(
     unused_over(alloc, asked, &upgrade, commands, list.as_slice())
 }
 
-fn asks_so(asked: Asked<'_, '_>, sends: Sends, unknown: Unknown) -> bool
+fn asks_so(asked: Asked<'_>, sends: Sends, unknown: Unknown) -> bool
     ensures { result ≡ true → (sends ≡ asked.entry.sends) × (unknown ≡ asked.entry.unknown) }
 {
     sends == asked.sends && unknown == asked.unknown
@@ -113,7 +114,7 @@ fn asks_so(asked: Asked<'_, '_>, sends: Sends, unknown: Unknown) -> bool
 /// Those of the entries that accept no line of the commands at these places.
 fn unused_over<A: Book, B: Book>(
     alloc: Global,
-    asked: Asked<'_, '_>,
+    asked: Asked<'_>,
     upgrade: &Upgrade<'_, A, B>,
     commands: &[usize],
     list: &[Entry],
@@ -127,10 +128,17 @@ fn unused_over<A: Book, B: Book>(
     let asked = Asked {
         messages: false,
         once: true,
-        form: Form::Text,
         ..asked
     };
-    match put_lines(alloc, &mut nowhere, upgrade, commands, asked, list) {
+    match put_lines(
+        alloc,
+        &mut nowhere,
+        upgrade,
+        commands,
+        asked,
+        &InWords,
+        list,
+    ) {
         Ok(listing) => listing.seen.accepting.unused(alloc),
         Err(RunFault::NoMemory) => Err(AllocError),
         Err(RunFault::Device) => unreachable!(),

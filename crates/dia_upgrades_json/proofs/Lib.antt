@@ -1,3 +1,4 @@
-pub mod Forms
+pub mod Added
+pub mod Kept
 mod Reports
-mod Written
+pub mod Writings

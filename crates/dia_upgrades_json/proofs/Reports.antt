@@ -21,17 +21,19 @@ use Rattle.dia_report.specs.Refusals.{RecordsOf}
 use Rattle.dia_run.specs.Outcome.{ended}
 use Rattle.dia_run.specs.Report.{AreReadFrom, HasFinding}
 use Rattle.dia_upgrades.specs.declared.asked.Asked.{Asked}
-use Rattle.dia_upgrades.specs.declared.reporting.Listed.{Listed}
+use Rattle.dia_upgrades.specs.declared.reporting.BooksAnswer.{BooksAnswer}
 use Rattle.dia_upgrades.specs.declared.reporting.Report.TheVariants as reports
 use Rattle.dia_upgrades.specs.declared.reporting.Report.{Report}
-use Rattle.dia_upgrades.specs.declared.reporting.Reported.{Reported}
-use Rattle.dia_upgrades.specs.Outcome.{AreRefused, IsSafeUpgrade, IsUnsafeUpgrade, bad_first, bad_second}
-use Rattle.dia_upgrades.proofs.Outcomes.{bad_is_refused, no_is_unsafe, yes_is_safe}
+use Rattle.dia_upgrades.specs.declared.reporting.BreakingAnswer.{BreakingAnswer}
+use Rattle.dia_upgrades.specs.declared.reporting.Findings.{Findings}
+use Rattle.dia_upgrades.specs.Outcome.{AreRefused, IsListed, IsSafeUpgrade, IsUnsafeUpgrade, bad_first, bad_second}
+use Rattle.dia_upgrades.specs.UnderWay.{Answers}
+use Rattle.dia_upgrades.specs.Writing.{Writing}
+use Rattle.dia_upgrades.proofs.Outcomes.{bad_is_refused, listed_in_words, no_is_unsafe, yes_is_safe}
 use Rattle.dia_upgrades_json.specs.Begun.{begun, nothing}
-use Rattle.dia_upgrades_json.specs.Objects.{ArePlaced, AreSpelt, as_json, texts_of}
-use Rattle.dia_upgrades_json.specs.Outcome.{IsBreakingJson, IsJsonReport}
-use Rattle.dia_upgrades_json.specs.UnderWay.{Answers, RefusesFor, Reports}
-use Rattle.dia_upgrades_json.proofs.Forms.{refused_as_json, refused_in_words, safe_in_words, unsafe_in_words}
+use Rattle.dia_upgrades_json.specs.Objects.{ArePlaced, AreSpelt, json_over, texts_of}
+use Rattle.dia_upgrades_json.specs.Outcome.{IsBreakingJson, IsJsonReport, IsListedJson}
+use Rattle.dia_upgrades_json.specs.UnderWay.{RefusesFor, Reports}
 use Rattle.dia_refused_json.proofs.Recording.{dictionary_refused}
 
 module _ (meaning : IndexedBook → Dictionary) (asked : Asked) (inputs : Inputs) (old new : Option (List ℕ)) where
@@ -47,20 +49,27 @@ module _ (meaning : IndexedBook → Dictionary) (asked : Asked) (inputs : Inputs
     pub are_spelt : AreSpelt inputs (texts_of inputs books)
     are_spelt = ((books.first.value.source, are_read.0.0, are_placed.0, refl), (books.second.value.source, are_read.1.0, are_placed.1, refl))
 
-    pub listed_reports : (listed : Listed) (reported : Reported) → reported.exit ≡ listed.exit → reported.report ≡ reports.Read books listed.found → Answers asked inputs a b (texts_of inputs books) old new (Ok listed)
+    abbrev w : Writing
+    w = json_over a b (texts_of inputs books)
+
+    listed_so : (text : List ℕ) (exit : Exit) (is : Findings) → IsListed w asked inputs.table a b text exit is → IsListedJson asked inputs a b text exit is
+    listed_so text exit is listed = record { texts = texts_of inputs books; are_spelt = are_spelt; listed = listed }
+
+    pub listed_reports : (listed : BooksAnswer) (reported : BreakingAnswer) → reported.exit ≡ listed.exit → reported.report ≡ reports.Read books listed.found → Answers w asked inputs.table a b old new (Ok listed)
         → Reports meaning asked inputs old new (Ok reported)
-    listed_reports listed reported exit report (text, is, same, put) = (
+    unfolding listed_so
+    listed_reports listed reported exit report (text, is, put) = (
       text,
-      subst (IsBreakingJson asked inputs text) (sym exit) (inl (a, b, are_read.0.1, are_read.1.1, (listed.found, is))),
+      subst (IsBreakingJson asked inputs text) (sym exit) (inl (a, b, are_read.0.1, are_read.1.1, (listed.found, listed_so text listed.exit listed.found is))),
       subst (λ (r : Report). IsJsonReport meaning asked inputs r text reported.exit) (sym report)
-          (subst (IsJsonReport meaning asked inputs (reports.Read books listed.found) text) (sym exit) (are_read, is, same)),
+          (subst (IsJsonReport meaning asked inputs (reports.Read books listed.found) text) (sym exit) (are_read, listed_so text listed.exit listed.found is, refl)),
       put,
     )
 
-    pub fault_reports : (fault : RunFault) → Answers asked inputs a b (texts_of inputs books) old new (Err fault) → Reports meaning asked inputs old new (Err fault)
-    fault_reports Device (text, inl is, front) = (text, inl (begun a b are_read.0.1 are_read.1.1 is), front)
-    fault_reports Device (text, inr (exit, is), front) = (text, inr (exit, inl (a, b, are_read.0.1, are_read.1.1, is)), front)
-    fault_reports NoMemory (text, is, put) = (text, begun a b are_read.0.1 are_read.1.1 is, put)
+    pub fault_reports : (fault : RunFault) → Answers w asked inputs.table a b old new (Err fault) → Reports meaning asked inputs old new (Err fault)
+    fault_reports Device (text, inl is, front) = (text, inl (begun a b are_read.0.1 are_read.1.1 (texts_of inputs books, are_spelt, is)), front)
+    fault_reports Device (text, inr (exit, (found, is)), front) = (text, inr (exit, inl (a, b, are_read.0.1, are_read.1.1, (found, listed_so text exit found is))), front)
+    fault_reports NoMemory (text, is, put) = (text, begun a b are_read.0.1 are_read.1.1 (texts_of inputs books, are_spelt, is), put)
 
   -- ---- where one is refused, of which R tells this as text
 
@@ -72,7 +81,7 @@ module _ (meaning : IndexedBook → Dictionary) (asked : Asked) (inputs : Inputs
     nothing_put : new ≡ old → Reports meaning asked inputs old new (Err NoMemory)
     nothing_put same = ([], nothing refl, subst (λ (o : Option (List ℕ)). Appends old o []) (sym same) (Appends-nil old))
 
-    refusal_reports : (why : Refused) → RecordsOf R why → HasFinding input why → (r : Result Reported RunFault) → RefusesFor input why old new r → Reports meaning asked inputs old new r
+    refusal_reports : (why : Refused) → RecordsOf R why → HasFinding input why → (r : Result BreakingAnswer RunFault) → RefusesFor input why old new r → Reports meaning asked inputs old new r
     refusal_reports (refusals.Bad bad) recorded kept (Ok reported) (report, text, records, put) = (
       text,
       refused_so bad recorded kept text reported.exit records,
@@ -83,16 +92,16 @@ module _ (meaning : IndexedBook → Dictionary) (asked : Asked) (inputs : Inputs
     refusal_reports (refusals.Bad bad) recorded kept (Err NoMemory) same = nothing_put same
     refusal_reports refusals.NoMemory recorded kept r (is, same) = subst (Reports meaning asked inputs old new) (sym is) (nothing_put same)
 
-  pub first_reports : (why : Refused) → RecordsOf (RefusesFirst inputs) why → HasFinding inputs.first why → (r : Result Reported RunFault) → RefusesFor inputs.first why old new r → Reports meaning asked inputs old new r
+  pub first_reports : (why : Refused) → RecordsOf (RefusesFirst inputs) why → HasFinding inputs.first why → (r : Result BreakingAnswer RunFault) → RefusesFor inputs.first why old new r → Reports meaning asked inputs old new r
   first_reports why recorded kept r is = refusal_reports inputs.first (RefusesFirst inputs) (λ text exit h. inl h) (λ bad text exit h. inl h) why recorded kept r is
 
-  pub second_reports : (why : Refused) → RecordsOf (RefusesSecond inputs) why → HasFinding inputs.second why → (r : Result Reported RunFault) → RefusesFor inputs.second why old new r
+  pub second_reports : (why : Refused) → RecordsOf (RefusesSecond inputs) why → HasFinding inputs.second why → (r : Result BreakingAnswer RunFault) → RefusesFor inputs.second why old new r
       → Reports meaning asked inputs old new r
   second_reports why recorded kept r is = refusal_reports inputs.second (RefusesSecond inputs) (λ text exit h. inr h) (λ bad text exit h. inr h) why recorded kept r is
 
   -- ---- what the clauses say
 
-  pub text_of : (r : Result Reported RunFault) → Reports meaning asked inputs old new r
+  pub text_of : (r : Result BreakingAnswer RunFault) → Reports meaning asked inputs old new r
       → IfOk r (λ reported. (text : List ℕ) × IsBreakingJson asked inputs text reported.exit × IsJsonReport meaning asked inputs reported.report text reported.exit × Appends old new text)
   text_of (Ok reported) has = has
   text_of (Err fault) has = tt
@@ -105,27 +114,26 @@ module _ (meaning : IndexedBook → Dictionary) (asked : Asked) (inputs : Inputs
   refusal_refuses text exit (inl (bad, found, (why, none, e), is_text, is_exit)) = bad_first why none
   refusal_refuses text exit (inr (bad, found, (d, is_d, (why, none, e)), is_text, is_exit)) = bad_second why none
 
-  pub yes_of : (r : Result Reported RunFault) → Reports meaning asked inputs old new r → IfOk r (λ reported. reported.exit ≡ Yes → (words : List ℕ) × IsSafeUpgrade asked inputs words)
+  pub yes_of : (r : Result BreakingAnswer RunFault) → Reports meaning asked inputs old new r → IfOk r (λ reported. reported.exit ≡ Yes → (words : List ℕ) × IsSafeUpgrade asked inputs words)
   yes_of (Ok reported) (text, inl (d, e, is_d, is_e, (is, listed)), report, put) = λ is_yes.
-      let json = as_json asked listed.names in
-      safe_in_words asked listed.names inputs listed.objects (yes_is_safe json inputs listed.objects reported.exit (ended d e is_d is_e (is, listed.listed)) is_yes)
+      let (words, in_words) = listed_in_words (json_over d e listed.texts) asked inputs.table d e text reported.exit is listed.listed in
+      (words, yes_is_safe asked inputs words reported.exit (ended d e is_d is_e (is, in_words)) is_yes)
   yes_of (Ok reported) (text, inr refused, report, put) = λ is_yes. absurd (let e : Bad ≡ Yes = sym (refusal_is_bad text reported.exit refused) ∙ is_yes in cc)
   yes_of (Err fault) has = tt
 
-  pub no_of : (r : Result Reported RunFault) → Reports meaning asked inputs old new r → IfOk r (λ reported. reported.exit ≡ No → (words : List ℕ) × IsUnsafeUpgrade asked inputs words)
+  pub no_of : (r : Result BreakingAnswer RunFault) → Reports meaning asked inputs old new r → IfOk r (λ reported. reported.exit ≡ No → (words : List ℕ) × IsUnsafeUpgrade asked inputs words)
   no_of (Ok reported) (text, inl (d, e, is_d, is_e, (is, listed)), report, put) = λ is_no.
-      let json = as_json asked listed.names in
-      unsafe_in_words asked listed.names inputs listed.objects (no_is_unsafe json inputs listed.objects reported.exit (ended d e is_d is_e (is, listed.listed)) is_no)
+      let (words, in_words) = listed_in_words (json_over d e listed.texts) asked inputs.table d e text reported.exit is listed.listed in
+      (words, no_is_unsafe asked inputs words reported.exit (ended d e is_d is_e (is, in_words)) is_no)
   no_of (Ok reported) (text, inr refused, report, put) = λ is_no. absurd (let e : Bad ≡ No = sym (refusal_is_bad text reported.exit refused) ∙ is_no in cc)
   no_of (Err fault) has = tt
 
-  pub bad_of : (r : Result Reported RunFault) → Reports meaning asked inputs old new r → IfOk r (λ reported. (reported.exit ≡ Bad) ↔ AreRefused asked inputs)
+  pub bad_of : (r : Result BreakingAnswer RunFault) → Reports meaning asked inputs old new r → IfOk r (λ reported. (reported.exit ≡ Bad) ↔ AreRefused asked inputs)
   bad_of (Ok reported) (text, inl (d, e, is_d, is_e, (is, listed)), report, put) =
-      let json = as_json asked listed.names in
-      let both = bad_is_refused json inputs listed.objects reported.exit (ended d e is_d is_e (is, listed.listed)) in
-      (λ is_bad. refused_in_words asked listed.names inputs (both.0 is_bad), λ refused. both.1 (refused_as_json asked listed.names inputs refused))
+      let (words, in_words) = listed_in_words (json_over d e listed.texts) asked inputs.table d e text reported.exit is listed.listed in
+      bad_is_refused asked inputs words reported.exit (ended d e is_d is_e (is, in_words))
   bad_of (Ok reported) (text, inr refused, report, put) = (λ is_bad. refusal_refuses text reported.exit refused, λ are. refusal_is_bad text reported.exit refused)
   bad_of (Err fault) has = tt
 
-  pub fault_of : (r : Result Reported RunFault) (fault : RunFault) → Reports meaning asked inputs old new r → r ≡ Err fault → Reports meaning asked inputs old new (Err fault)
+  pub fault_of : (r : Result BreakingAnswer RunFault) (fault : RunFault) → Reports meaning asked inputs old new r → r ≡ Err fault → Reports meaning asked inputs old new (Err fault)
   fault_of r fault has is = subst (Reports meaning asked inputs old new) is has

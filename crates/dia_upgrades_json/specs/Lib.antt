@@ -1,4 +1,10 @@
 pub mod Begun
+pub mod Fields
+pub mod Keys
+pub mod LineObjects
+pub mod Members
 pub mod Objects
 pub mod Outcome
+pub mod SpotTexts
+pub mod Spots
 pub mod UnderWay

@@ -1,18 +1,16 @@
--- The objects of `breaking` as JSON: those of lines, and the one after them.
-use Rattle.std.specs.Prelude.{◌≡◌, ℕ, Bool, if◌then◌else◌, List, [], ◌++◌, codes, length, map}
-use Rattle.std.specs.Borrow.{Bor}
+-- The objects of `breaking` as JSON: those of lines, and those after them.
+use Rattle.std.specs.Prelude.{◌≡◌, ℕ, Bool, if◌then◌else◌, List, [], ◌++◌, codes, Option}
 use Rattle.std.specs.List.{flat_map}
 use Rattle.serde_json.specs.Written.{compact_text}
-use Rattle.dia_accepted.specs.Accepted.{PlainEntry, plain_entry}
+use Rattle.dia_accepted.specs.Accepted.{PlainEntry}
 use Rattle.dia_book.specs.Dictionary.{Dictionary}
-use Rattle.dia_breaking_json.specs.declared.Names.{Names}
-use Rattle.dia_breaking_json.specs.Fields.{Field, object_of, text_field}
-use Rattle.dia_breaking_json.specs.Keys.{key_in, key_named}
-use Rattle.dia_breaking_json.specs.LineObjects.{cause_object, line_object}
-use Rattle.dia_breaking_json.specs.Members.{unsigned_field}
-use Rattle.dia_breaking_json.specs.SpotTexts.{both_in, spelt}
-use Rattle.dia_breaking_json.specs.Spots.{PlainSpelt, PlainTexts, place_fields}
-use Rattle.dia_inclusion.specs.Proposed.{IsFirstUnknown}
+use Rattle.dia_upgrades_json.specs.declared.keys.Names.{Names}
+use Rattle.dia_upgrades_json.specs.Fields.{Field, object_of, text_field}
+use Rattle.dia_upgrades_json.specs.Keys.{key_in, key_named}
+use Rattle.dia_upgrades_json.specs.LineObjects.{cause_object, line_object}
+use Rattle.dia_upgrades_json.specs.Members.{unsigned_field}
+use Rattle.dia_upgrades_json.specs.SpotTexts.{both_in, spelt}
+use Rattle.dia_upgrades_json.specs.Spots.{PlainSpelt, PlainTexts, place_fields}
 use Rattle.dia_explain_places.specs.Places.{column_at, line_at}
 use Rattle.dia_explain_places.specs.Tables.{line_from, start_of_line}
 use Rattle.dia_ccf.specs.declared.source.Source.{Source}
@@ -22,15 +20,11 @@ use Rattle.dia_io.specs.declared.Inputs.{Inputs}
 use Rattle.dia_report.specs.declared.reporting.BothBooks.{BothBooks}
 use Rattle.dia_refused_json.specs.Refusals.{text_of}
 use Rattle.dia_run.specs.Texts.{IsPlacedIn, IsSourceText, line}
-use Rattle.dia_upgrades.specs.declared.asked.Asked.{Asked}
-use Rattle.dia_upgrades.specs.declared.asked.Form.TheVariants.{Json}
-use Rattle.dia_upgrades.specs.declared.asked.Stale.{Stale}
 use Rattle.dia_upgrades.specs.declared.list.BadList.{BadList}
 use Rattle.dia_upgrades.specs.declared.list.BadList.TheVariants.{TooLong, NotText, Syntax, Limit}
-use Rattle.dia_upgrades.specs.declared.reporting.Found.{Found}
-use Rattle.dia_upgrades.specs.declared.reporting.Found.TheVariants as found
 use Rattle.dia_upgrades.specs.Rows.{Cause, Row, causes_of}
-use Rattle.dia_upgrades.specs.Stale.{failing}
+use Rattle.dia_upgrades.specs.Writing.{Writing}
+use Rattle.dia_wire.specs.declared.Key.{Key}
 
 -- ---- lines
 
@@ -54,19 +48,6 @@ ArePlaced inputs books = IsPlacedIn inputs.first books.first.value.source × IsP
 -- the texts of two dictionaries that were read
 abbrev pub texts_of : Inputs → BothBooks → PlainTexts
 texts_of inputs books = record { first = spelt (text_of inputs.first) books.first.value.source; second = spelt (text_of inputs.second) books.second.value.source }
-
--- the same is asked, and lines are objects
-abbrev pub as_json : Asked → Bor Names → Asked
-as_json asked names = record {
-  sends = asked.sends;
-  unknown = asked.unknown;
-  messages = asked.messages;
-  once = asked.once;
-  meaning = asked.meaning;
-  stale = asked.stale;
-  form = Json names;
-  names = asked.names;
-}
 
 -- the object of a line over two dictionaries, which have these texts
 abbrev pub object_over : Dictionary → Dictionary → PlainTexts → Row → List ℕ
@@ -94,9 +75,6 @@ counts_fields lines causes accepted stale = unsigned_field (codes "lines") lines
 -- a stale entry, and the number of its line
 abbrev pub stale_fields : PlainEntry → List Field
 stale_fields e = text_field (codes "stale") e.words ++ unsigned_field (codes "line") e.line
-
-abbrev pub stale_objects : List PlainEntry → List ℕ
-stale_objects stale = flat_map (λ e. object_line (stale_fields e)) stale
 
 -- an input that is refused, and the kind of what is wrong
 abbrev pub refused_fields : (input kind : List ℕ) → List Field
@@ -131,10 +109,25 @@ no_commands_fields = refused_fields (codes "breaking") (codes "no command")
 abbrev pub no_command_fields : List ℕ → List Field
 no_command_fields name = no_commands_fields ++ text_field (codes "name") name
 
--- the text of the objects after those of lines, for what was found: those of the stale entries that fail, and a last one
-abbrev pub IsEnding : Stale → List (List ℕ) → Input → Dictionary → Found → List ℕ → Type 0
-IsEnding about names input a (found.Listed unused stale lines accepted causes meanings) text =
-    text ≡ stale_objects (failing about (map plain_entry stale.items)) ++ object_line (counts_fields lines (length causes.items) accepted (length stale.items))
-IsEnding about names input a (found.NoList bad) text = text ≡ object_line (list_fields (text_of input) bad)
-IsEnding about names input a found.NoCommands text = text ≡ object_line no_commands_fields
-IsEnding about names input a found.NoCommand text = (name : List ℕ) × IsFirstUnknown a names name × (text ≡ object_line (no_command_fields name))
+-- ---- an answer
+
+-- each as an object on a line, by the look-ups of AVPs by name and the texts of two dictionaries. That nothing is left isn't written: the counts say it
+abbrev pub json_by : (first second : List ℕ → Option Key) → PlainTexts → Writing
+json_by first second texts = record {
+  of_line = λ words parts digits. line (line_object first second texts parts words digits);
+  of_cause = λ commands words parts digits. line (cause_object first second texts commands parts words digits);
+  of_nothing = λ meaning is_some. [];
+  of_stale = λ e. object_line (stale_fields e);
+  of_counts = λ counts. object_line (counts_fields counts.lines counts.causes counts.accepted counts.stale);
+  of_bad_list = λ input bad. object_line (list_fields (text_of input) bad);
+  of_no_commands = object_line no_commands_fields;
+  of_no_command = λ name. object_line (no_command_fields name);
+}
+
+-- by the look-ups that were made
+abbrev pub json_in : Names → Writing
+json_in names = json_by (key_in names.first) (key_in names.second) (both_in names.texts.value)
+
+-- over two dictionaries, which have these texts
+abbrev pub json_over : Dictionary → Dictionary → PlainTexts → Writing
+json_over a b texts = json_by (key_named a) (key_named b) texts

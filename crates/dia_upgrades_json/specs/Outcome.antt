@@ -1,8 +1,6 @@
 -- What `breaking` writes as JSON, and how it ends.
-use Rattle.std.specs.Prelude.{◌≡◌, ℕ, ◌⊎◌, List, ◌++◌}
-use Rattle.std.specs.Borrow.{Bor}
+use Rattle.std.specs.Prelude.{◌≡◌, ℕ, ◌⊎◌, List}
 use Rattle.dia_book.specs.Dictionary.{Dictionary}
-use Rattle.dia_breaking_json.specs.declared.Names.{Names}
 use Rattle.dia_dict.specs.declared.IndexedBook.{IndexedBook}
 use Rattle.dia_io.specs.declared.Exit.{Exit}
 use Rattle.dia_io.specs.declared.Inputs.{Inputs}
@@ -11,30 +9,22 @@ use Rattle.dia_report.specs.declared.refusing.Refused.TheVariants.{Bad}
 use Rattle.dia_run.specs.Report.{AreReadFrom}
 use Rattle.dia_run.specs.Texts.{IsDictionaryText}
 use Rattle.dia_upgrades.specs.declared.asked.Asked.{Asked}
-use Rattle.dia_upgrades.specs.declared.reporting.Found.{Found}
+use Rattle.dia_upgrades.specs.declared.reporting.Findings.{Findings}
 use Rattle.dia_upgrades.specs.declared.reporting.Report.{Report}
 use Rattle.dia_upgrades.specs.declared.reporting.Report.TheVariants.{Refused, Read}
-use Rattle.dia_upgrades.specs.Asking.{names_of}
 use Rattle.dia_upgrades.specs.Outcome.{IsListed}
-use Rattle.dia_upgrades_json.specs.Objects.{AreNamesOf, AreSpelt, IsEnding, as_json, texts_of}
-use Rattle.dia_breaking_json.specs.Spots.{PlainTexts}
+use Rattle.dia_upgrades_json.specs.Objects.{AreSpelt, json_over, texts_of}
+use Rattle.dia_upgrades_json.specs.Spots.{PlainTexts}
 
--- `breaking` of two dictionaries and the list of the inputs: the objects in place of its lines, with the places in the texts of the dictionaries, and the
--- one after them
-pub record IsListedJson (asked : Asked) (inputs : Inputs) (a b : Dictionary) (text : List ℕ) (exit : Exit) (is : Found) : Type 0 where
+-- `breaking` of two dictionaries and the list of the inputs, written as objects, with the places in the texts of the dictionaries
+pub record IsListedJson (asked : Asked) (inputs : Inputs) (a b : Dictionary) (text : List ℕ) (exit : Exit) (is : Findings) : Type 0 where
   pub texts : PlainTexts
   pub are_spelt : AreSpelt inputs texts
-  pub names : Bor Names
-  pub objects : List ℕ
-  pub ending : List ℕ
-  pub are_names : AreNamesOf a b texts names.now
-  pub listed : IsListed (as_json asked names) inputs.table a b objects exit is
-  pub is_ending : IsEnding asked.stale (names_of asked) inputs.table a is ending
-  pub text_is : text ≡ objects ++ ending
+  pub listed : IsListed (json_over a b texts) asked inputs.table a b text exit is
 
 -- the same, whatever was found
 abbrev pub IsAnyListedJson : Asked → Inputs → Dictionary → Dictionary → List ℕ → Exit → Type 0
-IsAnyListedJson asked inputs a b text exit = (is : Found) × IsListedJson asked inputs a b text exit is
+IsAnyListedJson asked inputs a b text exit = (is : Findings) × IsListedJson asked inputs a b text exit is
 
 -- `breaking` of the inputs: that of their dictionaries and their list, or the object of a dictionary that is refused
 abbrev pub IsBreakingJson : Asked → Inputs → List ℕ → Exit → Type 0

@@ -17,18 +17,18 @@ use dia_io::{Exit, Input, Inputs, RunFault, Sink, put_all};
 use dia_refused_json::bad_input_line;
 use dia_report::{BadInput, BothBooks, Refused};
 use dia_run::read_dictionary;
-use dia_upgrades::{Asked, Listed, Report, Reported};
+use dia_upgrades::{Asked, BooksAnswer, BreakingAnswer, Report};
 use std::alloc::Global;
 
 /// Writes what `breaking` of dia_upgrades finds, as JSON: an object for each line, or with `once` for each cause, and one with
 /// how many lines, causes and accepted lines there are. Where nothing breaks, it is the only one. An input that is refused has
-/// an object, too. It ends as without JSON, and answers the same report. The form that is asked for isn't looked at.
+/// an object, too. It ends as without JSON, and answers the same report.
 pub fn breaking<S: Sink>(
     alloc: Global,
-    asked: Asked<'_, '_>,
+    asked: Asked<'_>,
     inputs: &Inputs,
     sink: &mut S,
-) -> Result<Reported, RunFault>
+) -> Result<BreakingAnswer, RunFault>
     requires { ¬ IsTrue (S.has_failed sink.old) }
     ensures text { IfOk result (λ reported. (text : List ℕ) × IsBreakingJson asked.entry inputs.now text reported.exit
         × IsJsonReport ⟦<IndexedBook as Book>⟧.meaning asked.entry inputs.now reported.report text reported.exit
@@ -55,10 +55,10 @@ pub fn breaking<S: Sink>(
 /// The same, in one clause.
 fn reported<S: Sink>(
     alloc: Global,
-    asked: Asked<'_, '_>,
+    asked: Asked<'_>,
     inputs: &Inputs,
     sink: &mut S,
-) -> Result<Reported, RunFault>
+) -> Result<BreakingAnswer, RunFault>
     requires { ¬ IsTrue (S.has_failed sink.old) }
     ensures reports { Reports ⟦<IndexedBook as Book>⟧.meaning asked.entry inputs.now
         (S.written sink.old) (S.written sink.new) result }
@@ -79,19 +79,19 @@ fn reported<S: Sink>(
 /// Lists what breaks over dictionaries that were read.
 fn over_books<S: Sink>(
     alloc: Global,
-    asked: Asked<'_, '_>,
+    asked: Asked<'_>,
     inputs: &Inputs,
     books: BothBooks,
     sink: &mut S,
-) -> Result<Reported, RunFault>
+) -> Result<BreakingAnswer, RunFault>
     requires { ¬ IsTrue (S.has_failed sink.old) }
     ensures reports { AreReadFrom ⟦<IndexedBook as Book>⟧.meaning inputs.now books → ArePlaced inputs.now books
         → Reports ⟦<IndexedBook as Book>⟧.meaning asked.entry inputs.now (S.written sink.old) (S.written sink.new) result }
     ensures device { (result ≡ Err Device) ↔ IsTrue (S.has_failed sink.new) }
 {
-    let Listed { exit, found } = listed(alloc, asked, inputs, &books, sink)?;
+    let BooksAnswer { exit, found } = listed(alloc, asked, inputs, &books, sink)?;
     let report = Report::Read { books, found };
-    Ok(Reported { exit, report })
+    Ok(BreakingAnswer { exit, report })
 }
 
 /// Writes the object of a dictionary that is refused.
@@ -100,7 +100,7 @@ fn refused<S: Sink>(
     input: &Input,
     why: Refused,
     sink: &mut S,
-) -> Result<Reported, RunFault>
+) -> Result<BreakingAnswer, RunFault>
     requires { ¬ IsTrue (S.has_failed sink.old) }
     ensures refuses { RefusesFor input.now why (S.written sink.old) (S.written sink.new) result }
     ensures device { (result ≡ Err Device) ↔ IsTrue (S.has_failed sink.new) }
@@ -116,7 +116,7 @@ fn put_bad<S: Sink>(
     input: &Input,
     bad: BadInput,
     sink: &mut S,
-) -> Result<Reported, RunFault>
+) -> Result<BreakingAnswer, RunFault>
     requires { ¬ IsTrue (S.has_failed sink.old) }
     ensures refuses { Refuses input.now bad (S.written sink.old) (S.written sink.new) result }
     ensures device { (result ≡ Err Device) ↔ IsTrue (S.has_failed sink.new) }
@@ -125,5 +125,5 @@ fn put_bad<S: Sink>(
     put_all(sink, text.as_bytes())?;
     let exit = Exit::Bad;
     let report = Report::Refused(bad);
-    Ok(Reported { exit, report })
+    Ok(BreakingAnswer { exit, report })
 }

@@ -1,105 +1,20 @@
-//! The objects after those of lines: the stale entries, and how many there are of all; or why nothing was compared.
+//! The objects after those of lines: the stale entries, and how much there is of all; or why nothing was compared.
 
-ghost use Rattle.std.specs.Prelude.{◌≡◌, ◌++◌, IfOk, List, OnOk, codes, map, string_bytes, ℕ};
-ghost use Rattle.dia_breaking_json.specs.Fields.{Adds, Field, fields_text};
-ghost use Rattle.dia_breaking_json.specs.Members.{unsigned_field};
-ghost use Rattle.dia_inclusion.specs.Proposed.{IsFirstUnknown};
-ghost use Rattle.dia_upgrades.specs.Asking.{AreCommands};
+ghost use Rattle.std.specs.Prelude.{◌≡◌, ◌++◌, IfOk, List, OnOk, codes, string_bytes, ℕ};
 ghost use Rattle.dia_accepted.specs.Accepted.{plain_entry};
-ghost use Rattle.dia_upgrades.specs.Stale.{failing};
-ghost use Rattle.dia_upgrades_json.specs.Objects.{IsEnding, counts_fields, line_fields, list_fields, list_kind, no_command_fields};
-ghost use Rattle.dia_upgrades_json.specs.Objects.{stale_fields, stale_objects};
-ghost use Rattle.dia_upgrades_json.specs.Objects.{no_commands_fields, object_line, refused_fields, where_fields};
-ghost use Rattle.dia_breaking_json.specs.Spots.{place_fields};
+ghost use Rattle.dia_upgrades_json.specs.Fields.{Adds, Field, fields_text};
+ghost use Rattle.dia_upgrades_json.specs.Members.{unsigned_field};
+ghost use Rattle.dia_upgrades_json.specs.Objects.{counts_fields, line_fields, list_fields, list_kind, no_command_fields};
+ghost use Rattle.dia_upgrades_json.specs.Objects.{no_commands_fields, object_line, refused_fields, stale_fields, where_fields};
+ghost use Rattle.dia_upgrades_json.specs.Spots.{place_fields};
 
-use dia_breaking_json::{object_text, push_text, push_unsigned};
-use dia_dict::Book;
+use crate::fields::{object_text, push_text, push_unsigned};
 use dia_explain_places::{line_from, place_of, start_of_line};
-use dia_io::Input;
-use dia_refused_json::text_of;
-use dia_upgrades::{BadList, Entry, Found, Stale, named};
+use dia_upgrades::{BadList, Counts, Entry};
 use std::alloc::{AllocError, Global};
 
-/// The objects for what was found.
-pub(crate) fn ending<A: Book>(
-    alloc: Global,
-    fails: Stale,
-    names: &[String],
-    list: &Input,
-    a: &A,
-    found: &Found,
-) -> Result<String, AllocError>
-    requires { found.now ≡ Found.NoCommand → ¬ AreCommands (A.meaning a.now) (map (λ name. string_bytes name) names.now) }
-    ensures { IfOk result (λ text. IsEnding fails (map (λ name. string_bytes name) names.now) list.now (A.meaning a.now) found.now
-        (string_bytes text)) }
-{
-    match found {
-        Found::Listed {
-            stale,
-            lines,
-            accepted,
-            causes,
-            ..
-        } => {
-            let fails = failing(fails, stale.as_slice());
-            counted(alloc, fails, *lines, causes.len(), *accepted, stale.len())
-        }
-        Found::NoList(bad) => bad_list_line(alloc, text_of(list), *bad),
-        Found::NoCommands => no_commands_line(alloc),
-        Found::NoCommand => unknown_line(alloc, names, a),
-    }
-}
-
-/// The stale entries for which the answer is no.
-fn failing(fails: Stale, stale: &[Entry]) -> &[Entry]
-    ensures { map plain_entry result.now ≡ failing fails (map plain_entry stale.now) }
-{
-    match fails {
-        Stale::Fails => stale,
-        Stale::Allowed => &[],
-        Stale::Ignored => &[],
-    }
-}
-
-/// The objects of the entries that fail, and the one with the counts.
-fn counted(
-    alloc: Global,
-    fails: &[Entry],
-    lines: usize,
-    causes: usize,
-    accepted: usize,
-    stale: usize,
-) -> Result<String, AllocError>
-    ensures { IfOk result (λ text. string_bytes text
-        ≡ stale_objects (map plain_entry fails.now) ++ object_line (counts_fields lines causes accepted stale)) }
-{
-    let mut text = stale_objects(alloc, fails)?;
-    let counts = counts_line(alloc, lines, causes, accepted, stale)?;
-    text.push_str(counts.as_str())?;
-    Ok(text)
-}
-
-/// The objects of stale entries.
-fn stale_objects(alloc: Global, entries: &[Entry]) -> Result<String, AllocError>
-    ensures { IfOk result (λ text. string_bytes text ≡ stale_objects (map plain_entry entries.now)) }
-{
-    let mut text = String::new(alloc);
-    for entry in entries {
-        push_stale(alloc, &mut text, entry)?;
-    }
-    Ok(text)
-}
-
-/// Adds the object of a stale entry.
-fn push_stale(alloc: Global, text: &mut String, entry: &Entry) -> Result<(), AllocError>
-    ensures { OnOk result (string_bytes text.new ≡ string_bytes text.old ++ object_line (stale_fields (plain_entry entry.now))) }
-{
-    let object = stale_line(alloc, entry)?;
-    text.push_str(object.as_str())?;
-    Ok(())
-}
-
-fn stale_line(alloc: Global, entry: &Entry) -> Result<String, AllocError>
+/// The object of a stale entry.
+pub(crate) fn stale_line(alloc: Global, entry: &Entry) -> Result<String, AllocError>
     ensures { IfOk result (λ text. string_bytes text ≡ object_line (stale_fields (plain_entry entry.now))) }
 {
     let mut fields = String::new(alloc);
@@ -108,25 +23,21 @@ fn stale_line(alloc: Global, entry: &Entry) -> Result<String, AllocError>
     object_line(alloc, fields.as_str())
 }
 
-fn counts_line(
-    alloc: Global,
-    lines: usize,
-    causes: usize,
-    accepted: usize,
-    stale: usize,
-) -> Result<String, AllocError>
-    ensures { IfOk result (λ text. string_bytes text ≡ object_line (counts_fields lines causes accepted stale)) }
+/// The object with how much there is of all.
+pub(crate) fn counts_line(alloc: Global, counts: Counts) -> Result<String, AllocError>
+    ensures { IfOk result (λ text. string_bytes text
+        ≡ object_line (counts_fields counts.lines counts.causes counts.accepted counts.stale)) }
 {
     let mut fields = String::new(alloc);
-    push_unsigned(alloc, &mut fields, "lines", lines as u64)?;
-    push_unsigned(alloc, &mut fields, "causes", causes as u64)?;
-    push_unsigned(alloc, &mut fields, "accepted", accepted as u64)?;
-    push_unsigned(alloc, &mut fields, "stale", stale as u64)?;
+    push_unsigned(alloc, &mut fields, "lines", counts.lines as u64)?;
+    push_unsigned(alloc, &mut fields, "causes", counts.causes as u64)?;
+    push_unsigned(alloc, &mut fields, "accepted", counts.accepted as u64)?;
+    push_unsigned(alloc, &mut fields, "stale", counts.stale as u64)?;
     object_line(alloc, fields.as_str())
 }
 
 /// The object of a list that is refused.
-fn bad_list_line(alloc: Global, list: &[u8], bad: BadList) -> Result<String, AllocError>
+pub(crate) fn bad_list_line(alloc: Global, list: &[u8], bad: BadList) -> Result<String, AllocError>
     ensures { IfOk result (λ text. string_bytes text ≡ object_line (list_fields list.now bad)) }
 {
     let mut fields = String::new(alloc);
@@ -193,7 +104,7 @@ fn push_line_and_column(
 }
 
 /// The object of a dictionary without commands.
-fn no_commands_line(alloc: Global) -> Result<String, AllocError>
+pub(crate) fn no_commands_line(alloc: Global) -> Result<String, AllocError>
     ensures { IfOk result (λ text. string_bytes text ≡ object_line no_commands_fields) }
 {
     let mut fields = String::new(alloc);
@@ -201,21 +112,8 @@ fn no_commands_line(alloc: Global) -> Result<String, AllocError>
     object_line(alloc, fields.as_str())
 }
 
-/// The object of the first name that no command has.
-fn unknown_line<A: Book>(alloc: Global, names: &[String], a: &A) -> Result<String, AllocError>
-    requires { ¬ AreCommands (A.meaning a.now) (map (λ name. string_bytes name) names.now) }
-    ensures { IfOk result (λ text. (name : List ℕ)
-        × IsFirstUnknown (A.meaning a.now) (map (λ name. string_bytes name) names.now) name
-        × (string_bytes text ≡ object_line (no_command_fields name))) }
-{
-    match named(alloc, a, names)? {
-        Err(name) => no_command_line(alloc, name),
-        Ok(_) => unreachable!(),
-    }
-}
-
 /// The object of a name that no command has.
-fn no_command_line(alloc: Global, name: &str) -> Result<String, AllocError>
+pub(crate) fn no_command_line(alloc: Global, name: &str) -> Result<String, AllocError>
     ensures { IfOk result (λ text. string_bytes text ≡ object_line (no_command_fields name.now)) }
 {
     let mut fields = String::new(alloc);

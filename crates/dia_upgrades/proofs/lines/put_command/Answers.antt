@@ -21,13 +21,13 @@ pub returns-in_err-breaks-clause-stops : goal.returns-in_err-breaks-clause-stops
 returns-in_err-breaks-clause-stops g c =
     let p = err_from_is_err_and c.from_residual.result c.from_residual.ensures.1 in
     let mid : Listing = record { seen = c.args.listing.now.seen; pending = c.args.listing.now.pending; budget = c.breaks.new.left } in
-    rw (p.1, p.2) (before (stops_here c.args.asked c.args.place (g.S.Sink.written c.args.sink.now) c.args.listing.now mid refl))
+    rw (p.1, p.2) (before (stops_here (g.W.LineWriter.writes c.args.writer.now) c.args.asked c.args.place (g.S.Sink.written c.args.sink.now) c.args.listing.now mid refl))
 
 pub returns-in_err-shown-clause-stops : goal.returns-in_err-shown-clause-stops
 returns-in_err-shown-clause-stops g c =
     let p = err_from_is_err_and c.from_residual-in_err-shown.result c.from_residual-in_err-shown.ensures.1 in
     let mid : Listing = record { seen = c.args.listing.now.seen; pending = c.args.listing.now.pending; budget = c.breaks.new.left } in
-    rw (p.1, p.2) (before (stops_here c.args.asked c.args.place (g.S.Sink.written c.args.sink.now) c.args.listing.now mid refl))
+    rw (p.1, p.2) (before (stops_here (g.W.LineWriter.writes c.args.writer.now) c.args.asked c.args.place (g.S.Sink.written c.args.sink.now) c.args.listing.now mid refl))
 
 pub returns-in_err-put_each-clause-stops : goal.returns-in_err-put_each-clause-stops
 returns-in_err-put_each-clause-stops g c =
@@ -66,7 +66,7 @@ returns-in_err-put_each-clause-stops g c =
     rw (p.1, p.2)
     (among c.breaks.new.left stops.more stops.rest apart.0
     (recorded_so s k asked.messages asked.meaning lengths place breaks.command c.args.listing.now.budget c.breaks.new.left breaks shown (stops.more ++ stops.rest) apart.0 same is_found recorded apart.1)
-    (stops_from asked place _ _ _ c.args.listing.now mid c.put_each.new.listing stops.more refl refl stops.stops))
+    (stops_from (g.W.LineWriter.writes c.args.writer.now) asked place _ _ _ c.args.listing.now mid c.put_each.new.listing stops.more refl refl stops.stops))
 
 pub returns-in_err-see_each_apart-clause-stops : goal.returns-in_err-see_each_apart-clause-stops
 returns-in_err-see_each_apart-clause-stops g c =
@@ -106,7 +106,7 @@ returns-in_err-see_each_apart-clause-stops g c =
     let is_recorded = recorded_so s k asked.messages asked.meaning lengths place breaks.command c.args.listing.now.budget c.breaks.new.left breaks shown more apart.0 same is_found recorded apart.1 in
     rw (p.1, p.2)
     (among c.breaks.new.left more [] apart.0 (subst (λ (xs : List Row). IsRecordedOf s k asked.messages asked.meaning lengths place c.args.listing.now.budget c.breaks.new.left xs apart.0) (sym (append-nil more)) is_recorded)
-    (stops_after asked place _ _ c.args.listing.now c.put_each.new.listing new more [] refl (goes_from asked place _ _ c.args.listing.now mid c.put_each.new.listing more [] refl refl goes)))
+    (stops_after (g.W.LineWriter.writes c.args.writer.now) asked place _ _ c.args.listing.now c.put_each.new.listing new more [] refl (goes_from (g.W.LineWriter.writes c.args.writer.now) asked place _ _ c.args.listing.now mid c.put_each.new.listing more [] refl refl goes)))
 
 pub returns-clause-all : goal.returns-clause-all
 returns-clause-all g c =
@@ -144,10 +144,10 @@ returns-clause-all g c =
     let recorded = subst (λ (ls : List Line). AreParts (IsRecordedIn up breaks place asked.messages) ls more) c.as_slice-lines.ensures.value parts in
     let apart = subst (λ (ls : List Line). AreParts (IsRecordedIn up breaks place false) ls others) apart_is apart_parts in
     let is_recorded = recorded_so s k asked.messages asked.meaning lengths place breaks.command c.args.listing.now.budget c.breaks.new.left breaks shown more others same is_found recorded apart in
-    let both = goes_both asked place _ _ _ c.args.listing.now c.put_each.new.listing new more [] [] others
-    (goes_from asked place _ _ c.args.listing.now mid c.put_each.new.listing more [] refl refl goes) (apart_goes asked place _ c.put_each.new.listing new others refl (sees asked)) in (
+    let both = goes_both (g.W.LineWriter.writes c.args.writer.now) asked place _ _ _ c.args.listing.now c.put_each.new.listing new more [] [] others
+    (goes_from (g.W.LineWriter.writes c.args.writer.now) asked place _ _ c.args.listing.now mid c.put_each.new.listing more [] refl refl goes) (apart_goes (g.W.LineWriter.writes c.args.writer.now) asked place _ c.put_each.new.listing new others refl (sees asked)) in (
       more,
       others,
       subst (λ (n : ℕ). IsRecordedOf s k asked.messages asked.meaning lengths place c.args.listing.now.budget n more others) (sym c.in_ok-put_each.ensures.budget) is_recorded,
-      subst (λ (xs : List Row). GoesOn asked place (g.S.Sink.written c.args.sink.now) (g.S.Sink.written c.put_each.new.sink) c.args.listing.now new xs others) (append-nil more) both,
+      subst (λ (xs : List Row). GoesOn (g.W.LineWriter.writes c.args.writer.now) asked place (g.S.Sink.written c.args.sink.now) (g.S.Sink.written c.put_each.new.sink) c.args.listing.now new xs others) (append-nil more) both,
     )

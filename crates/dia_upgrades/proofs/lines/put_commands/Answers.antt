@@ -14,7 +14,7 @@ use Rattle.dia_upgrades.proofs.lines.put_commands.Goals as goal
 pub loop-place-init : goal.loop-place-init
 loop-place-init g c = record {
   sound = c.requires.sound;
-  some = λ list begun place new all way. none_yet (sides_of c.args.upgrade.now) (stock_of c.args.upgrade.now) c.args.asked (facts_of c.args.upgrade.now).lengths c.args.forgets list begun (g.S.Sink.written c.args.sink.now) c.args.listing.now place all way;
+  some = λ list begun place new all way. none_yet (g.W.LineWriter.writes c.args.writer.now) (sides_of c.args.upgrade.now) (stock_of c.args.upgrade.now) c.args.asked (facts_of c.args.upgrade.now).lengths c.args.forgets list begun (g.S.Sink.written c.args.sink.now) c.args.listing.now place all way;
 }
 
 pub loop-place-preserved : goal.loop-place-preserved
@@ -36,7 +36,7 @@ loop-place-preserved g c =
           let (recorded, apart, is, goes) = c.in_ok-put_command.ensures.all in
           let is_here = is in
           let goes_here = goes in
-          goes_next s (stock_of up) asked lengths c.args.forgets list begun places i d c.loop-place-test.true (g.S.Sink.written c.loop-place.sink) (g.S.Sink.written c.put_command.new.sink) old begin new some
+          goes_next (g.W.LineWriter.writes c.args.writer.now) s (stock_of up) asked lengths c.args.forgets list begun places i d c.loop-place-test.true (g.S.Sink.written c.loop-place.sink) (g.S.Sink.written c.put_command.new.sink) old begin new some
           (λ known others none are. c.begin.ensures asked list some.place _ (length (take i places)) known others none are) refl refl each (omega (arith, length-take i places, c.loop-place-test.true, c.type_inv.places)) recorded apart is_here goes_here;
     }
 
@@ -59,7 +59,7 @@ returns-in_err-put_command-clause-stops g c =
     let shortest : AreShortest s.sender s.sends (facts_of up).lengths = ∥∥₁_map up.known (λ known. (known.least, known.are_least, known.are_lengths)) in
     let is_stock : IsStockOf s (facts_of up).lengths (stock_of up) = record { least_is = up.lengths.exact; costs_are = refl; others_are = ∥∥₁_map up.known (λ known. known.are_others) } in
     let stops = c.in_err-put_command.ensures.stops in
-    stops_there s (stock_of up) asked lengths c.args.forgets list begun places i d c.loop-place-test.true (g.S.Sink.written c.loop-place.sink) (g.S.Sink.written c.put_command.new.sink) old begin new some
+    stops_there (g.W.LineWriter.writes c.args.writer.now) s (stock_of up) asked lengths c.args.forgets list begun places i d c.loop-place-test.true (g.S.Sink.written c.loop-place.sink) (g.S.Sink.written c.put_command.new.sink) old begin new some
     (λ known others none are. c.begin.ensures asked list some.place _ (length (take i places)) known others none are) refl refl each (omega (arith, length-take i places, c.loop-place-test.true, c.type_inv.places)) shortest is_stock
     c.in_err-put_command.field-0.0 stops)
 
@@ -71,5 +71,5 @@ returns-clause-all g c = λ list begun place each all way.
     let shortest : AreShortest s.sender s.sends (facts_of up).lengths = ∥∥₁_map up.known (λ known. (known.least, known.are_least, known.are_lengths)) in
     let is_stock : IsStockOf s (facts_of up).lengths (stock_of up) = record { least_is = up.lengths.exact; costs_are = refl; others_are = ∥∥₁_map up.known (λ known. known.are_others) } in
     let whole = take_all c.loop-place.place-index c.args.places.now c.loop-place-test.false in
-    subst (λ (ps : List ℕ). AreUnderWay s c.args.asked c.args.forgets list ps begun (g.S.Sink.written c.loop-place.sink) c.loop-place.listing) whole
-    (all_some s (stock_of up) c.args.asked (facts_of up).lengths c.args.forgets list begun (take c.loop-place.place-index c.args.places.now) (g.S.Sink.written c.loop-place.sink) c.loop-place.listing shortest is_stock some)
+    subst (λ (ps : List ℕ). AreUnderWay (g.W.LineWriter.writes c.args.writer.now) s c.args.asked c.args.forgets list ps begun (g.S.Sink.written c.loop-place.sink) c.loop-place.listing) whole
+    (all_some (g.W.LineWriter.writes c.args.writer.now) s (stock_of up) c.args.asked (facts_of up).lengths c.args.forgets list begun (take c.loop-place.place-index c.args.places.now) (g.S.Sink.written c.loop-place.sink) c.loop-place.listing shortest is_stock some)

@@ -12,6 +12,6 @@ abbrev pub invariant-loop-place : goal.invariant-loop-place
 invariant-loop-place g l = record {
   sound : ¬ IsTrue (g.S.Sink.has_failed l.sink);
   some : (list : List PlainEntry) (begun : Option (List ℕ)) (place : ℕ) → (l.forgets ≡ true → IsEachNew l.places) → l.initial.listing.budget ≡ most_checked_together
-      → IsUnderWay l.asked l.forgets list place 0 begun (g.S.Sink.written l.initial.sink) l.initial.listing [] []
-      → AreSome (sides_of l.upgrade) (stock_of l.upgrade) l.asked (facts_of l.upgrade).lengths l.forgets list begun (take l.place-index l.places) (g.S.Sink.written l.sink) l.listing;
+      → IsUnderWay (g.W.LineWriter.writes l.writer) l.asked l.forgets list place 0 begun (g.S.Sink.written l.initial.sink) l.initial.listing [] []
+      → AreSome (g.W.LineWriter.writes l.writer) (sides_of l.upgrade) (stock_of l.upgrade) l.asked (facts_of l.upgrade).lengths l.forgets list begun (take l.place-index l.places) (g.S.Sink.written l.sink) l.listing;
 }

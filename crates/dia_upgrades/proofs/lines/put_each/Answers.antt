@@ -11,7 +11,7 @@ use Rattle.dia_upgrades.proofs.Parts.{one_more}
 use Rattle.dia_upgrades.proofs.lines.put_each.Goals as goal
 
 pub loop-line-init : goal.loop-line-init
-loop-line-init g c = record { sound = c.requires; budget = refl; recorded = ([], refl, goes_nothing c.args.asked c.args.place (g.S.Sink.written c.args.sink.now) c.args.listing.now) }
+loop-line-init g c = record { sound = c.requires; budget = refl; recorded = ([], refl, goes_nothing (g.W.LineWriter.writes c.args.writer.now) c.args.asked c.args.place (g.S.Sink.written c.args.sink.now) c.args.listing.now) }
 
 pub loop-line-preserved : goal.loop-line-preserved
 loop-line-preserved g c =
@@ -26,7 +26,7 @@ loop-line-preserved g c =
       recorded = (
         recorded ++ t ∷ [],
         one_more is c.args.lines.now c.loop-line.line-index c.line-item.result recorded (t ∷ []) c.loop-line-test.true parts here,
-        goes_both c.args.asked c.args.place _ _ _ c.args.listing.now c.loop-line.listing c.put_line.new.listing recorded (t ∷ []) [] [] goes one,
+        goes_both (g.W.LineWriter.writes c.args.writer.now) c.args.asked c.args.place _ _ _ c.args.listing.now c.loop-line.listing c.put_line.new.listing recorded (t ∷ []) [] [] goes one,
       );
     }
 
@@ -38,7 +38,7 @@ returns-in_err-put_line-clause-stops g c =
     let some = some_bytes (sides_of up) (stock_of up) c.args.breaks.now.command c.args.breaks.now.sites.items in
     let (recorded, parts, goes) = c.loop-line.invariant.recorded in
     rw (p.1, p.2)
-    (stops_at c.args.asked c.args.place c.args.asked.messages says (IsMessageIn up c.args.breaks.now) some _ _ _ _ c.args.listing.now c.loop-line.listing c.put_line.new.listing c.args.lines.now c.loop-line.line-index c.line-item.result recorded
+    (stops_at (g.W.LineWriter.writes c.args.writer.now) c.args.asked c.args.place c.args.asked.messages says (IsMessageIn up c.args.breaks.now) some _ _ _ _ c.args.listing.now c.loop-line.listing c.put_line.new.listing c.args.lines.now c.loop-line.line-index c.line-item.result recorded
     c.loop-line-test.true c.line-item.is parts goes c.in_err-put_line.ensures.stops)
 
 pub returns-clause-all : goal.returns-clause-all

@@ -10,5 +10,5 @@ invariant-loop-line g l = record {
   sound : ¬ IsTrue (g.S.Sink.has_failed l.sink);
   budget : l.listing.budget ≡ l.initial.listing.budget;
   recorded : (recorded : List Row) × AreParts (IsRecordedIn l.upgrade l.breaks l.place l.asked.messages) (take l.line-index l.lines) recorded
-      × GoesOn l.asked l.place (g.S.Sink.written l.initial.sink) (g.S.Sink.written l.sink) l.initial.listing l.listing recorded [];
+      × GoesOn (g.W.LineWriter.writes l.writer) l.asked l.place (g.S.Sink.written l.initial.sink) (g.S.Sink.written l.sink) l.initial.listing l.listing recorded [];
 }

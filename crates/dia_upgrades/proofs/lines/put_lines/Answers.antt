@@ -19,7 +19,7 @@ returns-in_err-forgets-clause-front g c =
     let up = c.args.upgrade.now in
     let shortest : AreShortest (sides_of up).sender (sides_of up).sends (facts_of up).lengths = ∥∥₁_map up.known (λ known. (known.least, known.are_least, known.are_lengths)) in
     let is_stock : IsStockOf (sides_of up) (facts_of up).lengths (stock_of up) = record { least_is = up.lengths.exact; costs_are = refl; others_are = ∥∥₁_map up.known (λ known. known.are_others) } in
-    rw (p.1, p.2) (none_first (sides_of up) (stock_of up) c.args.asked (map plain_entry c.args.list.now) (facts_of up).lengths c.args.places.now (g.S.Sink.written c.args.sink.now) shortest is_stock)
+    rw (p.1, p.2) (none_first (g.W.LineWriter.writes c.args.writer.now) (sides_of up) (stock_of up) c.args.asked (map plain_entry c.args.list.now) (facts_of up).lengths c.args.places.now (g.S.Sink.written c.args.sink.now) shortest is_stock)
 
 pub returns-in_err-listing-clause-front : goal.returns-in_err-listing-clause-front
 returns-in_err-listing-clause-front g c =
@@ -27,7 +27,7 @@ returns-in_err-listing-clause-front g c =
     let up = c.args.upgrade.now in
     let shortest : AreShortest (sides_of up).sender (sides_of up).sends (facts_of up).lengths = ∥∥₁_map up.known (λ known. (known.least, known.are_least, known.are_lengths)) in
     let is_stock : IsStockOf (sides_of up) (facts_of up).lengths (stock_of up) = record { least_is = up.lengths.exact; costs_are = refl; others_are = ∥∥₁_map up.known (λ known. known.are_others) } in
-    rw (p.1, p.2) (none_first (sides_of up) (stock_of up) c.args.asked (map plain_entry c.args.list.now) (facts_of up).lengths c.args.places.now (g.S.Sink.written c.args.sink.now) shortest is_stock)
+    rw (p.1, p.2) (none_first (g.W.LineWriter.writes c.args.writer.now) (sides_of up) (stock_of up) c.args.asked (map plain_entry c.args.list.now) (facts_of up).lengths c.args.places.now (g.S.Sink.written c.args.sink.now) shortest is_stock)
 
 pub returns-in_err-put_rest-clause-front : goal.returns-in_err-put_rest-clause-front
 returns-in_err-put_rest-clause-front g c =
@@ -37,7 +37,7 @@ returns-in_err-put_rest-clause-front g c =
     let put = g.S.Sink.written c.args.sink.now in
     let new = c.put_commands-found.new.listing in
     let same = sym c.deref_mut.ensures.value in
-    let way = subst (λ (l : Listing). IsUnderWay c.args.asked c.in_ok-forgets.forgets list 0 0 put put l [] []) same (c.in_ok-listing.ensures.way c.args.asked c.in_ok-forgets.forgets put) in
+    let way = subst (λ (l : Listing). IsUnderWay (g.W.LineWriter.writes c.args.writer.now) c.args.asked c.in_ok-forgets.forgets list 0 0 put put l [] []) same (c.in_ok-listing.ensures.way (g.W.LineWriter.writes c.args.writer.now) c.args.asked c.in_ok-forgets.forgets put) in
     let budget = subst (λ (l : Listing). l.budget ≡ most_checked_together) same c.in_ok-listing.ensures.budget in
     let all = on_ok_weaker c.put_commands-found.result (λ f. f list put 0 c.in_ok-forgets.ensures budget way) c.put_commands-found.ensures.all in
     let stops = IfErr-weaker c.put_commands-found.result _ _ (λ fault f. f list put 0 c.in_ok-forgets.ensures budget way) c.put_commands-found.ensures.stops in
@@ -45,7 +45,7 @@ returns-in_err-put_rest-clause-front g c =
     let front = subst
     (λ (l : Listing). OccursAfter c.put_commands-found.result c.in_err-put_rest.field-0.0 (g.S.Sink.written c.put_commands-found.new.sink) (g.S.Sink.written c.put_rest.new.sink) l.pending)
     pending c.in_err-put_rest.ensures.front in
-    rw (p.1, p.2) (rest_occurs (sides_of up) c.args.asked c.in_ok-forgets.forgets list c.args.places.now put (g.S.Sink.written c.put_commands-found.new.sink) (g.S.Sink.written c.put_rest.new.sink) new c.put_commands-found.result
+    rw (p.1, p.2) (rest_occurs (g.W.LineWriter.writes c.args.writer.now) (sides_of up) c.args.asked c.in_ok-forgets.forgets list c.args.places.now put (g.S.Sink.written c.put_commands-found.new.sink) (g.S.Sink.written c.put_rest.new.sink) new c.put_commands-found.result
     all stops _ front)
 
 pub returns-clause-all : goal.returns-clause-all
@@ -55,14 +55,14 @@ returns-clause-all g c =
     let put = g.S.Sink.written c.args.sink.now in
     let new = c.put_commands-found.new.listing in
     let same = sym c.deref_mut.ensures.value in
-    let way = subst (λ (l : Listing). IsUnderWay c.args.asked c.in_ok-forgets.forgets list 0 0 put put l [] []) same (c.in_ok-listing.ensures.way c.args.asked c.in_ok-forgets.forgets put) in
+    let way = subst (λ (l : Listing). IsUnderWay (g.W.LineWriter.writes c.args.writer.now) c.args.asked c.in_ok-forgets.forgets list 0 0 put put l [] []) same (c.in_ok-listing.ensures.way (g.W.LineWriter.writes c.args.writer.now) c.args.asked c.in_ok-forgets.forgets put) in
     let budget = subst (λ (l : Listing). l.budget ≡ most_checked_together) same c.in_ok-listing.ensures.budget in
     let all = on_ok_weaker c.put_commands-found.result (λ f. f list put 0 c.in_ok-forgets.ensures budget way) c.put_commands-found.ensures.all in
     let pending = c.deref_mut-2.ensures.value in
     let rest = subst (λ (l : Listing). (begun : Option (List ℕ)) (text : List ℕ) → IsPut begun (g.S.Sink.written c.put_commands-found.new.sink) l.pending text
     → Appends begun (g.S.Sink.written c.put_rest.new.sink) text) pending c.in_ok-put_rest.ensures.all.1 in
-    subst (λ (l : Listing). AreAllPut (sides_of up) c.args.asked list c.args.places.now put (g.S.Sink.written c.put_rest.new.sink) l.seen) (sym pending)
-    (all_put (sides_of up) c.args.asked c.in_ok-forgets.forgets list c.args.places.now put (g.S.Sink.written c.put_commands-found.new.sink) (g.S.Sink.written c.put_rest.new.sink) new
+    subst (λ (l : Listing). AreAllPut (g.W.LineWriter.writes c.args.writer.now) (sides_of up) c.args.asked list c.args.places.now put (g.S.Sink.written c.put_rest.new.sink) l.seen) (sym pending)
+    (all_put (g.W.LineWriter.writes c.args.writer.now) (sides_of up) c.args.asked c.in_ok-forgets.forgets list c.args.places.now put (g.S.Sink.written c.put_commands-found.new.sink) (g.S.Sink.written c.put_rest.new.sink) new
     c.put_commands-found.result c.in_ok-put_rest.ensures.all.0 all rest)
 
 pub returns-in_err-put_rest-clause-device : goal.returns-in_err-put_rest-clause-device

@@ -3,7 +3,7 @@ use Rattle.std.proofs.lemmas.List.{append-nil}
 use Rattle.dia_breaking.specs.Upgrades.{other_length_of, sides_of, stock_of}
 use Rattle.dia_breaking.proofs.MessageBytes.{some_bytes}
 use Rattle.dia_upgrades.specs.Recorded.{has_message, row_of, says_of, written}
-use Rattle.dia_upgrades.specs.Forms.{line_in}
+use Rattle.dia_upgrades.specs.Writing.{line_in}
 use Rattle.dia_upgrades.specs.UnderWay.{IsMessageIn, plain_digits}
 use Rattle.dia_upgrades.proofs.LinesToReport.{digits_after, sees_accepted, sees_left}
 use Rattle.dia_upgrades.proofs.Listings.{could_be}
@@ -25,7 +25,7 @@ returns-then-known g c =
     let judged = c.in_ok-known.ensures in (
       t,
       could_be place asked.messages says (IsMessageIn up c.args.breaks.now) line some.0 (some.1, some.2),
-      sees_accepted asked place c.args.seen.now c.judge.new.self t c.as_str-recorded.result.now c.in_ok-known.known (sym recorded) judged.accepted judged.judged judged.causes judged.meanings judged.firsts c.if-known.true,
+      sees_accepted (g.W.LineWriter.writes c.args.writer.now) asked place c.args.seen.now c.judge.new.self t c.as_str-recorded.result.now c.in_ok-known.known (sym recorded) judged.accepted judged.judged judged.causes judged.meanings judged.firsts c.if-known.true,
     )
 
 pub returns-then-asked : goal.returns-then-asked
@@ -43,11 +43,11 @@ returns-then-asked g c =
     let once = c.if-asked.true in (
       t,
       (stored.digits, stored.is_after, refl),
-      sees_left asked place c.args.seen.now c.judge.new.self t c.as_str-recorded.result.now c.in_ok-known.known (sym recorded) judged.accepted judged.judged judged.causes judged.meanings judged.firsts _ [] c.if-known.false refl refl refl refl refl
+      sees_left (g.W.LineWriter.writes c.args.writer.now) asked place c.args.seen.now c.judge.new.self t c.as_str-recorded.result.now c.in_ok-known.known (sym recorded) judged.accepted judged.judged judged.causes judged.meanings judged.firsts _ [] c.if-known.false refl refl refl refl refl
           (λ forgets before visits small are.
           come_cause forgets c.add.new.self before t place visits (c.in_ok-add.ensures forgets (tolds before) (recorded_of t) visits small refl (sym recorded) (inl (sym c.new-none.ensures.bytes)) are))
           (λ forgets before visits are same. stored_more asked before t _ _ once (stored.is_stored forgets (tolds before) place visits are) same)
-          (sym (ap (λ (b : Bool). cond b [] (written asked (t ∷ []))) once)),
+          (sym (ap (λ (b : Bool). cond b [] (written (g.W.LineWriter.writes c.args.writer.now) (t ∷ []))) once)),
     )
 
 pub returns : goal.returns
@@ -65,9 +65,9 @@ returns g c =
     let each = c.if-asked.false in (
       t,
       (following, c.in_ok-digits.ensures, refl),
-      sees_left asked place c.args.seen.now c.judge.new.self t c.as_str-recorded.result.now c.in_ok-known.known (sym recorded) judged.accepted judged.judged judged.causes judged.meanings judged.firsts _ _ c.if-known.false refl refl refl refl refl
+      sees_left (g.W.LineWriter.writes c.args.writer.now) asked place c.args.seen.now c.judge.new.self t c.as_str-recorded.result.now c.in_ok-known.known (sym recorded) judged.accepted judged.judged judged.causes judged.meanings judged.firsts _ _ c.if-known.false refl refl refl refl refl
           (λ forgets before visits small are.
           come_cause forgets c.add-2.new.self before t place visits (c.in_ok-add-2.ensures forgets (tolds before) (recorded_of t) visits small refl (sym recorded) (inl (sym c.new-none.ensures.bytes)) are))
           (λ forgets before visits are same. none_stored asked before t _ each same)
-          (c.in_ok-shown.ensures place (says line) refl (sym recorded) ∙ sym (append-nil (line_in asked.form t)) ∙ sym (ap (λ (b : Bool). cond b [] (written asked (t ∷ []))) each)),
+          (c.in_ok-shown.ensures place (says line) refl (sym recorded) ∙ sym (append-nil (line_in (g.W.LineWriter.writes c.args.writer.now) t)) ∙ sym (ap (λ (b : Bool). cond b [] (written (g.W.LineWriter.writes c.args.writer.now) (t ∷ []))) each)),
     )

@@ -1,7 +1,6 @@
-use Rattle.std.proofs.Common.{[], ◌∷◌, ◌++◌, Bool, List, ap, cond, map, sym, ◌∙◌}
+use Rattle.std.proofs.Common.{[], ◌∷◌, ◌++◌, Bool, ap, cond, map, sym, ◌∙◌}
 use Rattle.std.specs.List.{list_any}
 use Rattle.std.proofs.lemmas.List.{append-nil, map-append}
-use Rattle.std.proofs.lemmas.Result.{on_ok_weaker}
 use Rattle.dia_accepted.specs.Causes.{has_cause}
 use Rattle.dia_accepted.specs.Words.{cause_text}
 use Rattle.dia_breaking.specs.Upgrades.{sides_of, stock_of}

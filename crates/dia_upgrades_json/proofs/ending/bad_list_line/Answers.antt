@@ -1,6 +1,6 @@
 use Rattle.std.proofs.Common.{◌∙◌, codes}
 use Rattle.std.proofs.lemmas.Result.{IfOk-weaker}
-use Rattle.dia_breaking_json.proofs.Added.{both_added, from_nothing}
+use Rattle.dia_upgrades_json.proofs.Added.{both_added, from_nothing}
 use Rattle.dia_upgrades_json.specs.Objects.{list_fields, list_kind, refused_fields, where_fields}
 use Rattle.dia_upgrades_json.proofs.ending.bad_list_line.Goals as goal
 

@@ -1,7 +1,7 @@
 use Rattle.std.proofs.Common.{◌∙◌, codes}
 use Rattle.std.proofs.lemmas.Result.{IfOk-weaker}
-use Rattle.dia_breaking_json.specs.Fields.{text_field}
-use Rattle.dia_breaking_json.proofs.Added.{both_added, from_nothing}
+use Rattle.dia_upgrades_json.specs.Fields.{text_field}
+use Rattle.dia_upgrades_json.proofs.Added.{both_added, from_nothing}
 use Rattle.dia_upgrades_json.specs.Objects.{no_command_fields, no_commands_fields}
 use Rattle.dia_upgrades_json.proofs.ending.no_command_line.Goals as goal
 

@@ -1,6 +1,6 @@
 use Rattle.std.proofs.Common.{◌∙◌}
 use Rattle.std.proofs.lemmas.Result.{IfOk-weaker}
-use Rattle.dia_breaking_json.proofs.Added.{from_nothing}
+use Rattle.dia_upgrades_json.proofs.Added.{from_nothing}
 use Rattle.dia_upgrades_json.specs.Objects.{no_commands_fields}
 use Rattle.dia_upgrades_json.proofs.ending.no_commands_line.Goals as goal
 

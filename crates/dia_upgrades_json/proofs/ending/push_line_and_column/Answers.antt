@@ -1,7 +1,7 @@
 use Rattle.std.proofs.Common.{codes}
 use Rattle.std.proofs.lemmas.Result.{on_ok_weaker}
-use Rattle.dia_breaking_json.specs.Members.{unsigned_field}
-use Rattle.dia_breaking_json.proofs.Added.{both_added}
+use Rattle.dia_upgrades_json.specs.Members.{unsigned_field}
+use Rattle.dia_upgrades_json.proofs.Added.{both_added}
 use Rattle.dia_upgrades_json.proofs.ending.push_line_and_column.Goals as goal
 
 pub returns : goal.returns

@@ -2,9 +2,9 @@ use Rattle.std.proofs.Common.{◌∙◌, codes}
 use Rattle.std.specs.Prelude.{string_bytes}
 use Rattle.std.proofs.lemmas.Result.{IfOk-weaker}
 use Rattle.dia_accepted.specs.Accepted.{plain_entry}
-use Rattle.dia_breaking_json.specs.Fields.{text_field}
-use Rattle.dia_breaking_json.specs.Members.{unsigned_field}
-use Rattle.dia_breaking_json.proofs.Added.{both_added, from_nothing}
+use Rattle.dia_upgrades_json.specs.Fields.{text_field}
+use Rattle.dia_upgrades_json.specs.Members.{unsigned_field}
+use Rattle.dia_upgrades_json.proofs.Added.{both_added, from_nothing}
 use Rattle.dia_upgrades_json.specs.Objects.{stale_fields}
 use Rattle.dia_upgrades_json.proofs.ending.stale_line.Goals as goal
 

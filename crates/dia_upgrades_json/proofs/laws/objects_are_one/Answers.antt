@@ -1,5 +1,5 @@
 use Rattle.std.proofs.Common.{List, ℕ}
-use Rattle.dia_breaking_json.specs.LineObjects.{cause_object, line_object}
+use Rattle.dia_upgrades_json.specs.LineObjects.{cause_object, line_object}
 use Rattle.dia_run.specs.Texts.{line}
 use Rattle.dia_upgrades_json.proofs.laws.objects_are_one.Goals as goal
 

@@ -1,7 +1,0 @@
-use Rattle.std.proofs.Common.{◌∙◌}
-use Rattle.serde_json.specs.Data.{number, unsigned}
-use Rattle.std.proofs.lemmas.Result.{on_ok_weaker}
-use Rattle.dia_breaking_json.proofs.fields.push_unsigned.Goals as goal
-
-pub returns : goal.returns
-returns c = on_ok_weaker c.push_field.result (λ add. add (number (unsigned c.args.number)) (c.as_str.ensures.value ∙ c.in_ok-value.ensures.ok)) c.push_field.ensures

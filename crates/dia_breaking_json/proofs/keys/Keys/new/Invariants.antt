@@ -1,5 +1,0 @@
-use Rattle.dia_breaking_json.proofs.Kept.{AreKept}
-use Rattle.dia_breaking_json.proofs.keys.Keys.new.Given as goal
-
-abbrev pub invariant-loop-index : goal.invariant-loop-index
-invariant-loop-index g l = AreKept (g.B.Book.meaning l.book).entries l.index l.keys
