@@ -1,6 +1,6 @@
 -- In messages that are sent each level is reached, and so are its AVPs, by ways that leave room for them.
 use Rattle.std.proofs.Common.{◌≡◌, ℕ, zero, suc, ◌+◌, ◌-◌, ◌<◌, ◌≤◌, Bool, true, false, List, [], ◌∷◌, length, map, Option, Some, None, refl, sym, ap, subst, ◌∙◌, arith, inl, inr}
-use Rattle.std.specs.Prelude.{◌⊎◌, sum_by, Contains, slice_get, option_and_then}
+use Rattle.std.specs.Prelude.{◌⊎◌, ◌||◌, sum_by, Contains, slice_get, option_and_then}
 use Rattle.std.specs.List.{AllByRecursion}
 use Rattle.std.specs.Option.{option_map, option_map_or}
 use Rattle.std.proofs.lemmas.Option.{same_Some, slice_get_within}
@@ -24,7 +24,7 @@ use Rattle.dia_breaking_shortest.specs.Floors.{shortest_head, total}
 use Rattle.dia_breaking_shortest.proofs.BytesOfAvps.{data_bytes}
 use Rattle.dia_breaking_shortest.proofs.FloorsOfAvps.{no_shorter}
 use Rattle.dia_breaking_shortest.proofs.FloorsOfLengths.{HasEntry, entry_at, in_map}
-use Rattle.dia_breaking_ways.specs.Walks.{Graph, IsWalk, IsReached, IsUnlisted, Leads, By_rule, By_wildcard, PlainExits, PlainLevel, PlainNode, level_of, stage_at, stage_of, step_to}
+use Rattle.dia_breaking_ways.specs.Walks.{Graph, IsWalk, IsReached, IsUnlisted, Leads, By_rule, By_wildcard, PlainExits, PlainLevel, PlainNode, is_by_wildcard, level_of, stage_at, stage_by, stage_of, step_to}
 use Rattle.dia_breaking_ways.specs.declared.graph.Step.{Step}
 use Rattle.dia_breaking_ways.specs.declared.graph.Reach.{Reach}
 use Rattle.dia_lint.specs.Held.{IsBelow, group_number}
@@ -69,8 +69,8 @@ module _ (s : Side) (is : IsDictionary s.book) (are : AreOfSide s) (steps : List
     pub at : slice_get reached place ≡ Some (Some reach)
     pub short : reach.length ≤ total
 
-  way_to : (place number total : ℕ) (node : PlainNode) → slice_get (nodes_of s) place ≡ Some node → IsReached graph steps place number total → HasWay place total
-  way_to place number total node at reaches = by there.0 there.1
+  way_to : (place number total : ℕ) (wild : Bool) (node : PlainNode) → slice_get (nodes_of s) place ≡ Some node → IsReached graph steps place number total wild → HasWay place total
+  way_to place number total wild node at reaches = by there.0 there.1
     where
       there : (o : Option Reach) × (slice_get reached place ≡ Some o)
       there =
@@ -79,8 +79,8 @@ module _ (s : Side) (is : IsDictionary s.book) (are : AreOfSide s) (steps : List
           there_is reached place (omega (arith, within, size))
 
       by : (o : Option Reach) → slice_get reached place ≡ Some o → HasWay place total
-      by None e = absurd (walk.shortest place None e number total reaches)
-      by (Some reach) e = record { reach = reach; at = e; short = no_longer reach number total ((walk.shortest place (Some reach) e).1 number total reaches) }
+      by None e = absurd (walk.shortest place None e number total wild reaches)
+      by (Some reach) e = record { reach = reach; at = e; short = no_longer reach number total wild ((walk.shortest place (Some reach) e).1 number total wild reaches) }
 
   -- the step to a level that is reached
   pub record HasStep (place : ℕ) (level : PlainLevel) (total : ℕ) : Type 0 where
@@ -194,24 +194,32 @@ module _ (s : Side) (is : IsDictionary s.book) (are : AreOfSide s) (steps : List
           by true e = by_rule e
           by false e = by_wildcard e
 
-      staged : stage_at graph steps (suc l.number) ≡ Some (record { way = l.step.way; exits = l.level.exits })
+      staged : stage_at graph steps (suc l.number) ≡ Some (stage_by l.step l.level)
       staged =
-          ap (λ (o : Option Step). option_and_then (λ (st : Step). stage_of graph st.place st.way) o) l.at
-          ∙ ap (λ (o : Option PlainLevel). option_map (λ (lev : PlainLevel). record { way = l.step.way; exits = lev.exits }) o) l.is_level
+          ap (λ (o : Option Step). option_and_then (stage_of graph) o) l.at
+          ∙ ap (λ (o : Option PlainLevel). option_map (stage_by l.step) o) l.is_level
 
-      reaches : IsReached graph steps place (suc l.number) (l.step.way + led.0)
+      own : Leads (nodes_of s) l.level.exits place led.0
+      own = subst (λ (x : PlainExits). Leads (nodes_of s) x place led.0) (sym l.exits) led.1
+
+      wild : Bool
+      wild = is_by_wildcard own || l.step.wild
+
+      reaches : IsReached graph steps place (suc l.number) (l.step.way + led.0) wild
+      unfolding wild
       reaches = record {
-        stage = record { way = l.step.way; exits = l.level.exits };
+        stage = stage_by l.step l.level;
         inner = led.0;
         is_stage = staged;
-        leads = subst (λ (x : PlainExits). Leads (nodes_of s) x place led.0) (sym l.exits) led.1;
+        leads = own;
         is_total = refl;
+        is_wild = refl;
         has_room = let le = led.2 in let within = keys_within in let fits = l.within in omega (arith, le, within, fits);
       }
 
       -- so the AVP is reached
       pub way_of : HasWay place (l.step.way + led.0)
-      way_of = way_to place (suc l.number) (l.step.way + led.0) (entry_node s h.entry) (entry_there s are place h.entry entry_is) reaches
+      way_of = way_to place (suc l.number) (l.step.way + led.0) wild (entry_node s h.entry) (entry_there s are place h.entry entry_is) reaches
 
     -- and the level in it, if it is a group
     module _ (v : PlainAvp) (has : Contains avps v) (m : ℕ) (next : List PlainAvp) (is_group : group_number s.book (key_of v) ≡ Some m) (spelled : SpellsAll next v.bytes) where
@@ -288,16 +296,17 @@ module _ (s : Side) (is : IsDictionary s.book) (are : AreOfSide s) (steps : List
       let def : slice_get (definitions s.book) n ≡ Some command = into_right (groups s.book) s.book.commands i command at in
       let base = (cost_of s command.rules).base in
       let lists : Contains (start_of s).listed (place, base + 1) = listed def in
-      let reaches : IsReached graph steps place 0 (base + 1) = record {
-        stage = record { way = 0; exits = start_of s };
+      let reaches : IsReached graph steps place 0 (base + 1) false = record {
+        stage = record { way = 0; wild = false; exits = start_of s };
         inner = base + 1;
         is_stage = refl;
         leads = By_rule lists;
         is_total = omega arith;
+        is_wild = refl;
         has_room = let low = base_within in omega (arith, low, small);
       } in
       let node = command_there s are i command at in
-      let w = way_to place 0 (base + 1) (command_node s command) node reaches in
+      let w = way_to place 0 (base + 1) false (command_node s command) node reaches in
       let level_is : level_of graph place ≡ Some (record { least = base; exits = exits_of s command.rules }) =
       ap (λ (o : Option PlainNode). option_and_then (λ (x : PlainNode). x.level) o) node in
       let st = step_at place (record { least = base; exits = exits_of s command.rules }) (base + 1) level_is w in

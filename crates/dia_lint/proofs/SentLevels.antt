@@ -157,6 +157,6 @@ group_of d key n is = by (entry_of d key) refl is
         }
 
 -- a shortest way is no longer
-pub no_longer : (reach : Reach) (number total : ℕ) → IsNoLater reach number total → reach.length ≤ total
-no_longer reach number total (inl less) = omega (arith, less)
-no_longer reach number total (inr same) = let e = same.0 in omega (arith, e)
+pub no_longer : (reach : Reach) (number total : ℕ) (wild : Bool) → IsNoLater reach number total wild → reach.length ≤ total
+no_longer reach number total wild (inl less) = omega (arith, less)
+no_longer reach number total wild (inr same) = let e = same.0 in omega (arith, e)
