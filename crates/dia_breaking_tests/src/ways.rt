@@ -158,11 +158,7 @@ fn shorter_by_wildcard(alloc: Global) -> Result<bool, AllocError> {
     let start = exits(alloc, &[(0, 20)], 29)?;
     let nodes = vec![in alloc; group(alloc, &[(1, 30)])?, leaf(12)]?;
     let found = walk(alloc, &nodes, &start, 100)?;
-    Ok(has(
-        found,
-        &[step(0, 12, 0)],
-        &[reach(0, 20), wild_reach(0, 41)],
-    ))
+    Ok(has(found, &[step(0, 12, 0)], &[reach(0, 20), wild_reach(0, 41)]))
 }
 
 #[test]

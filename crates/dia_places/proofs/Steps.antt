@@ -53,8 +53,7 @@ from_start d S place total wild r =
     let room : r.stage.way + r.inner ≤ max_parts = let a = r.is_total in let b : total ≤ max_parts = r.has_room in omega arith in
     let listed = leads_listed d (commands_from (length (groups d)) (length d.commands)) place r.inner r.stage.way leads room in
     let there = command_there (length (groups d)) (length d.commands) place r.inner listed in
-    let plain = leads_plain d r.stage.exits (commands_from (length (groups d)) (length d.commands)) place r.inner r.stage.way exits r.leads room in
-    (
+    let plain = leads_plain d r.stage.exits (commands_from (length (groups d)) (length d.commands)) place r.inner r.stage.way exits r.leads room in (
       (there.0, there.1, there.2),
       (let a = r.is_total in let b : r.inner ≡ 1 = there.3 in omega arith),
       r.is_wild ∙ (ap (λ (b : Bool). b || r.stage.wild) plain ∙ sym (ap (λ (x : Stage). x.wild) same)),
@@ -69,8 +68,7 @@ from_step d S place k total wild r =
     let room : r.stage.way + r.inner ≤ max_parts = let a = r.is_total in let b : total ≤ max_parts = r.has_room in omega arith in
     let listed = leads_listed d (listed_by d (rules_at d from.0.place)) place r.inner r.stage.way leads room in
     let there = listed_there d (rules_at d from.0.place) place r.inner listed in
-    let plain = leads_plain d r.stage.exits (listed_by d (rules_at d from.0.place)) place r.inner r.stage.way from.3 r.leads room in
-    (
+    let plain = leads_plain d r.stage.exits (listed_by d (rules_at d from.0.place)) place r.inner r.stage.way from.3 r.leads room in (
       from.0,
       from.1,
       (there.0, there.1, there.2),
