@@ -32,3 +32,12 @@ show_with_words Base inputs out ended other runs = runs
 show_with_words Empty inputs out ended other runs = runs
 show_with_words (StandardInput limit) inputs out ended other runs = runs
 show_with_words (File path limit) inputs out ended other runs = runs
+
+-- the same for `make`
+abbrev pub make_with_words : (table : Origin) (inputs : Inputs) (out : Stream) (ended : Result Reported Ending) → table ≢ Nowhere
+    → Runs (IsMade true inputs) out ended → Runs (IsMadeBy table inputs) out ended
+make_with_words Nowhere inputs out ended other runs = absurd (other refl)
+make_with_words Base inputs out ended other runs = runs
+make_with_words Empty inputs out ended other runs = runs
+make_with_words (StandardInput limit) inputs out ended other runs = runs
+make_with_words (File path limit) inputs out ended other runs = runs
