@@ -1,4 +1,4 @@
-"""Cases of `show --values`, `show --names`, `show --lines` and `show --json` with the first two, for .ci/cases. Flags and dates are worked out by hand from RFC 6733; the rest of the
+"""Cases of `show --values`, `show --names`, `show --lines` and `show --json` with the first two, and of `make --values`, for .ci/cases. Flags and dates are worked out by hand from RFC 6733; the rest of the
 dates is computed by Python's calendar."""
 
 import datetime
@@ -179,6 +179,42 @@ def objects(room):
     room.check("show --json --values words.txt empty.txt", 2, '{"error":"message","kind":"short"}')
 
 
+def made(room):
+    """`make` with words of values: the message is that of the number."""
+    busy = CAUSE[:-8] + "00000001"
+    rows = {
+        "Disconnect-Cause REBOOTING": CAUSE,
+        "Disconnect-Cause BUSY# a comment": busy,
+        "\tDisconnect-Cause flags M length 12 BUSY pad x": busy,
+        "Disconnect-Cause 1 BUSY": busy,
+        "Disconnect-Cause 1 OTHER": busy,
+        "Disconnect-Cause 0x1 REBOOTING": busy,
+        "Disconnect-Cause x00000001": busy,
+        "273 1 REBOOTING": busy,
+        # a group on one line, and a text that has words, marks and a name
+        "Failed-AVP { Disconnect-Cause BUSY, Disconnect-Cause REBOOTING }": "010000348000011a000000000000000100000002" + "0000011740000020" + "000001114000000c00000001" + "000001114000000c00000000",
+        'Error-Message flags - "{ Disconnect-Cause BUSY"': "010000348000011a000000000000000100000002" + "000001190000001f" + b"{ Disconnect-Cause BUSY".hex() + "00",
+    }
+    for text, message in rows.items():
+        room.check("make --values words.txt -", 0, message, stdin="DPR hop 1 end 2\n" + text, shown=f"make --values: {text}")
+    # of two numbers with one word the first; the word after the second one is right
+    twice = "Disconnect-Cause 1 X\nDisconnect-Cause 0 X\n"
+    room.write("double.txt", twice)
+    room.check("make --values double.txt -", 0, busy, stdin="DPR hop 1 end 2\nDisconnect-Cause X")
+    room.check("make --values double.txt -", 0, CAUSE, stdin="DPR hop 1 end 2\nDisconnect-Cause 0 X")
+    room.check("make --values @none -", 0, busy, stdin="DPR hop 1 end 2\nDisconnect-Cause 1 REBOOTING")
+    wrong = {"Disconnect-Cause BUSSY": "value", "Disconnect-Cause 1 REBOOTING": "syntax", "273 BUSY": "value", "Disconnect-Cause BUSY REBOOTING": "syntax", "Origin-Host BUSY": "value"}
+    for text, kind in wrong.items():
+        room.check("make --quiet --values words.txt -", 2, f"text: {kind} at line 2", stdin="DPR hop 1 end 2\n" + text, shown=f"make --values: {text}", err="")
+    # what is refused: the dictionary, then the words, then the text
+    room.write("nothing.txt", "")
+    room.check("make --values twice.txt --dict wrong.txt nothing.txt", 2, "dictionary 1: syntax at line 1")
+    room.check("make --values twice.txt nothing.txt", 2, "values: duplicate at line 2", err="twice.txt:2: a line before has the same AVP and number")
+    room.check("make --quiet --values twice.txt nothing.txt", 2, "values: duplicate at line 2", err="")
+    room.check("make --values words.txt nothing.txt", 2, "text: syntax at line 1")
+    room.check("make --values nofile.txt nothing.txt", 3, "", err=missing("nofile.txt"))
+
+
 def named(room):
     room.write("cause.hex", CAUSE + "\n")
     room.write("words.txt", WORDS + "\n")
@@ -196,5 +232,5 @@ def named(room):
     room.check("show cause.hex --names --values words.txt", 0, CAUSE_NAMED + " REBOOTING")
     room.check("show --names request.hex", 0, 'header flags R--- code 280 DWR app 0 hop 1 end 2 length 44\n20 0 264 - -M- 11 Origin-Host "a.b"\n32 0 296 - -M- 9 Origin-Realm "b"')
     room.check("show --names -", 2, "message: version", stdin="02" + REQUEST[2:])
-    for part in (times, texts, levels, refused, lines, objects):
+    for part in (times, texts, levels, refused, lines, objects, made):
         part(room)

@@ -26,7 +26,7 @@ _diacmd() {
         *:examples:--unknown) words='kept refused' ;;
         *) case $command:$word in
             show:-*) words='--quiet --dict --as-text --names --values --lines --json -h --help' ;;
-            make:-*) words='--quiet --dict -h --help' ;;
+            make:-*) words='--quiet --dict --values -h --help' ;;
             check:-*) words='--quiet --unknown --levels --lines --stream --all --json -h --help' ;;
             render:-*) words='--quiet -h --help' ;;
             compare:-*) words='--quiet --unknown --json -h --help' ;;

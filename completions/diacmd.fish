@@ -31,6 +31,7 @@ complete -c diacmd -n '__fish_seen_subcommand_from show' -s h -l help -d 'Print 
 complete -c diacmd -n '__fish_seen_subcommand_from make' -F
 complete -c diacmd -n '__fish_seen_subcommand_from make' -l quiet -d 'Prints no notes on standard error'
 complete -c diacmd -n '__fish_seen_subcommand_from make' -l dict -r -F -d 'The dictionary that names the AVPs: a file, @base, @none, or - for standard input'
+complete -c diacmd -n '__fish_seen_subcommand_from make' -l values -x -d 'The words of numbers, as lines AVP-NAME NUMBER WORD: a file, @none, or - for standard input'
 complete -c diacmd -n '__fish_seen_subcommand_from make' -s h -l help -d 'Print help'
 complete -c diacmd -n '__fish_seen_subcommand_from check' -F
 complete -c diacmd -n '__fish_seen_subcommand_from check' -a @base -d 'The built-in base dictionary'

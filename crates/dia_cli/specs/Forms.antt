@@ -47,7 +47,7 @@ pub data Layout : Type 0 where
 -- of `--only`, `--except` and `--accepted`
 pub data Form : Type 0 where
   show : Recording → Option Text → Text → Form
-  make : Option Text → Text → Form
+  make : Option Text → Option Text → Text → Form
   check : Manner → Bool → Unknown → Option Text → Text → Text → Form
   render : Text → Form
   compare : Bool → Unknown → Text → Text → Text → Form
@@ -65,7 +65,7 @@ pub data Form : Type 0 where
 -- its row
 abbrev pub form_row : Form → CommandRow
 form_row (show recording dictionary message) = show_row
-form_row (make dictionary written) = make_row
+form_row (make dictionary values written) = make_row
 form_row (check manner json unknown levels dictionary message) = check_row
 form_row (render dictionary) = render_row
 form_row (compare json unknown first second table) = compare_row
@@ -147,7 +147,7 @@ abbrev pub form_options : Form → List Slot
 form_options (show recording dictionary message) =
     text (codes "dict") dictionary ∷ flag (codes "as-text") (is_text recording) ∷ flag (codes "names") (has_names recording)
     ∷ text (codes "values") (values_given recording) ∷ flag (codes "lines") (has_lines recording) ∷ flag (codes "json") (is_json recording) ∷ []
-form_options (make dictionary written) = text (codes "dict") dictionary ∷ []
+form_options (make dictionary values written) = text (codes "dict") dictionary ∷ text (codes "values") values ∷ []
 form_options (check manner json unknown levels dictionary message) =
     unknown_slot unknown ∷ flag (codes "lines") (is_lines manner) ∷ flag (codes "stream") (is_stream manner)
     ∷ flag (codes "all") (is_full manner) ∷ flag (codes "json") (json_of manner json) ∷ number (codes "levels") levels ∷ []
@@ -179,7 +179,7 @@ form_options (examples layout unknown dictionary names) =
 
 abbrev pub form_inputs : Form → List Slot
 form_inputs (show recording dictionary message) = word (codes "MESSAGE") message ∷ []
-form_inputs (make dictionary written) = word (codes "TEXT") written ∷ []
+form_inputs (make dictionary values written) = word (codes "TEXT") written ∷ []
 form_inputs (check manner json unknown levels dictionary message) = word (codes "D") dictionary ∷ word (codes "MESSAGE") message ∷ []
 form_inputs (render dictionary) = word (codes "D") dictionary ∷ []
 form_inputs (compare json unknown first second table) = pair_slots first second (word (codes "TABLE") table)
@@ -205,7 +205,7 @@ IsTaskOfForm (show (as_json true names values) dictionary messages) (ShowLines n
 IsTaskOfForm (show (as_listing false false values) dictionary message) (Whole command.Show) = ⊤
 IsTaskOfForm (show (as_listing false true values) dictionary message) ShowNamed = ⊤
 IsTaskOfForm (show (as_listing true names values) dictionary messages) (ShowLines named) = named ≡ names
-IsTaskOfForm (make dictionary written) Make = ⊤
+IsTaskOfForm (make dictionary values written) Make = ⊤
 IsTaskOfForm (check alone json unknown levels dictionary message) (Whole (command.Check policy limit)) =
     (policy ≡ unknown) × IsLimitOf levels limit
 IsTaskOfForm (check in_lines json unknown levels dictionary messages) (CheckLines policy limit) =
@@ -252,7 +252,8 @@ form_words (show (as_listing true names values) dictionary messages) =
     record (one_text (unwrap_or dictionary (codes "@base"))) { table = Some (unwrap_or values (codes "@none")); messages = Some messages }
 form_words (show recording dictionary message) =
     record (one_text (unwrap_or dictionary (codes "@base"))) { table = Some (unwrap_or (values_given recording) (codes "@none")); message = Some message }
-form_words (make dictionary written) = record (one_text (unwrap_or dictionary (codes "@base"))) { message = Some written }
+form_words (make dictionary values written) =
+    record (one_text (unwrap_or dictionary (codes "@base"))) { table = Some (unwrap_or values (codes "@none")); message = Some written }
 form_words (check alone json unknown levels dictionary message) = record (one_text dictionary) { message = Some message }
 form_words (check in_lines json unknown levels dictionary messages) = record (one_text dictionary) { messages = Some messages }
 form_words (check in_stream json unknown levels dictionary bytes) = record (one_text dictionary) { messages = Some bytes }

@@ -100,7 +100,7 @@ arguments_of (Whole command.Show) = record (one_text (codes "dict")) { table = S
 arguments_of ShowNamed = record (one_text (codes "dict")) { table = Some (codes "values"); message = Some (codes "MESSAGE") }
 arguments_of (ShowLines names) = record (one_text (codes "dict")) { table = Some (codes "values"); messages = Some (codes "MESSAGE") }
 arguments_of ShowText = record (one_text (codes "dict")) { message = Some (codes "MESSAGE") }
-arguments_of Make = record (one_text (codes "dict")) { message = Some (codes "TEXT") }
+arguments_of Make = record (one_text (codes "dict")) { table = Some (codes "values"); message = Some (codes "TEXT") }
 arguments_of (Whole command.Render) = one_text (codes "D")
 arguments_of (Whole (command.Check unknown levels)) = record (one_text (codes "D")) { message = Some (codes "MESSAGE") }
 arguments_of (CheckLines unknown levels) = record (one_text (codes "D")) { messages = Some (codes "MESSAGE") }
@@ -133,7 +133,7 @@ abbrev pub has_shown : List Row → Bool
 has_shown rows = has_word (codes "dict") rows && (has_word (codes "MESSAGE") rows && has_word (codes "values") rows)
 
 abbrev pub has_made : List Row → Bool
-has_made rows = has_word (codes "dict") rows && has_word (codes "TEXT") rows
+has_made rows = has_word (codes "dict") rows && (has_word (codes "TEXT") rows && has_word (codes "values") rows)
 
 abbrev pub has_checked : List Row → Bool
 has_checked rows = is_flag (first_of (codes "lines") rows) && (is_flag (first_of (codes "stream") rows)

@@ -61,16 +61,19 @@ json_option = option (codes "json") no_value
 abbrev pub dict_option : OptionRow
 dict_option = option (codes "dict") (any_word (codes "@base"))
 
+abbrev pub values_option : OptionRow
+values_option = option (codes "values") (any_word (codes "@none"))
+
 abbrev pub show_row : CommandRow
 show_row = record {
   name = codes "show";
   options = quiet_option ∷ dict_option ∷ option (codes "as-text") no_value ∷ option (codes "names") no_value
-      ∷ option (codes "values") (any_word (codes "@none")) ∷ option (codes "lines") no_value ∷ json_option ∷ [];
+      ∷ values_option ∷ option (codes "lines") no_value ∷ json_option ∷ [];
   inputs = input (codes "MESSAGE") one ∷ [];
 }
 
 abbrev pub make_row : CommandRow
-make_row = record { name = codes "make"; options = quiet_option ∷ dict_option ∷ []; inputs = input (codes "TEXT") one ∷ [] }
+make_row = record { name = codes "make"; options = quiet_option ∷ dict_option ∷ values_option ∷ []; inputs = input (codes "TEXT") one ∷ [] }
 
 abbrev pub check_row : CommandRow
 check_row = record {

@@ -35,7 +35,7 @@ use crate::rows::command_rows;
 use crate::task::Task;
 use crate::values::{
     dictionary_of, flag_of, is_given, limit_of, message_of, messages_of, policy_of, sends_of,
-    word_of,
+    table_of, word_of,
 };
 use clap::ArgMatches;
 use clap::error::ErrorKind;
@@ -245,9 +245,14 @@ fn make_of<'a>(found: &ArgMatches<'a>) -> Option<Asked<'a>>
 {
     let origins = Origins::of_one(dictionary_of(found, "dict")?);
     let message = message_of(found, "TEXT")?;
+    let table = table_of(found, "values")?;
     Some(Asked {
         task: Task::Make,
-        origins: Origins { message, ..origins },
+        origins: Origins {
+            table,
+            message,
+            ..origins
+        },
     })
 }
 

@@ -1,3 +1,5 @@
 pub mod Answers
+pub mod Looked
+pub mod Pieces
 pub mod ReadsBack
 pub mod Shown

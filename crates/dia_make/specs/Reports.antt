@@ -11,13 +11,15 @@ use Rattle.dia_run.specs.Outcome.{Refuses}
 use Rattle.dia_run.specs.Report.{IsReadFrom}
 use Rattle.dia_make.specs.declared.reporting.Answered.{Answered}
 use Rattle.dia_make.specs.declared.reporting.Report.{Report}
-use Rattle.dia_make.specs.declared.reporting.Report.TheVariants.{Done, Refused, Text, Cut}
+use Rattle.dia_make.specs.declared.reporting.Report.TheVariants.{Done, Refused, NoValues, Text, Cut}
+use Rattle.dia_show.specs.Words.{values_line}
 use Rattle.dia_make.specs.Outcome.{text_line}
 
 -- each report ends otherwise than with Yes, but for the one that has nothing to report
 abbrev pub IsRecorded : Report → List ℕ → Exit → Type 0
 IsRecorded Done text exit = exit ≡ Yes
 IsRecorded (Refused bad) text exit = Refuses (bad_input_text bad) text exit
+IsRecorded (NoValues bad) text exit = Refuses (values_line bad) text exit
 IsRecorded (Text refused) text exit = Refuses (text_line refused.why) text exit
 IsRecorded (Cut place) text exit = (text ≡ bad_length_line place) × (exit ≡ No)
 

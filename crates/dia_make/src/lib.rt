@@ -5,9 +5,12 @@
 mod command;
 mod cutting;
 mod notes;
+mod numbered;
 mod refusing;
 mod reporting;
 mod showing;
+mod tables;
+mod words;
 
 pub use command::make;
 pub use notes::note;

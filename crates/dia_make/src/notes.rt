@@ -3,9 +3,12 @@
 use crate::notes::meant::{Meant, byte_of, in_other_quotes, meant_of};
 use crate::notes::names::NamesOf;
 use crate::notes::shown::is_shown;
+use crate::notes::valued::{given_place, number_at, push_number, push_word};
 use crate::notes::wanted::words_of;
 use crate::notes::word::{end_of_words, word_at};
+use crate::numbered::numbered;
 use crate::reporting::{BadText, RefusedText, Report};
+use crate::tables::{Tables, read_tables};
 use dia_data::{Format, push_hex_byte, push_value};
 use dia_dict::{IndexedBook, base_text};
 use dia_explain_places::{Note, line_from, start_of_line};
@@ -17,6 +20,7 @@ use std::alloc::{AllocError, Global};
 mod meant;
 mod names;
 mod shown;
+mod valued;
 mod wanted;
 mod word;
 
@@ -29,7 +33,7 @@ const NO_AVP: &str =
      (12 with a Vendor-ID), or leads past the end of the message; `diacmd show` lists the AVPs before it\n";
 
 /// The note of a report. `name` is that of the input that holds the text or the message. It is empty where there is nothing
-/// to report, and for a dictionary or hexadecimal text that is refused, which dia_explain_inputs explains.
+/// to report, and for a dictionary, hexadecimal text or words of values that are refused, which other crates explain.
 pub fn note(
     alloc: Global,
     name: &str,
@@ -38,7 +42,7 @@ pub fn note(
 ) -> Result<String, AllocError> {
     let mut note = Note::new(alloc);
     match report {
-        Report::Done | Report::Refused(_) => {}
+        Report::Done | Report::Refused(_) | Report::NoValues(_) => {}
         Report::Text(refused) => push_refused(&mut note, name, inputs, refused),
         Report::Cut { place } => {
             note.put_all(&[name, ": byte "]);
@@ -49,20 +53,30 @@ pub fn note(
     note.finish()
 }
 
+/// A text that is refused.
+#[derive(Clone, Copy)]
+struct Refusal<'n, 'a, 'b, 't> {
+    /// The name of its input.
+    name: &'n str,
+    text: &'a [u8],
+    /// The words of values with which it was read.
+    tables: Option<&'b Tables<'t>>,
+}
+
 /// Adds why a text is refused.
 fn push_refused(note: &mut Note, name: &str, inputs: &Inputs, refused: &RefusedText) {
     match (&refused.why, inputs.message.within(MAX_MESSAGE_TEXT)) {
-        (BadText::Fault(fault), Some(text)) => {
-            let book = &refused.first.book;
-            let is_base = match &inputs.first {
-                Input::Bytes(text) => text.as_slice() == base_text().as_bytes(),
-                Input::TooLong => false,
-            };
-            push_fault(note, name, &NamesOf { book, is_base }, text, fault);
-            if !is_shown(line_of(text, fault)) {
-                push_others(note, name, book, text);
+        (BadText::Fault(fault), Some(text)) => match tables_of(note.allocator(), inputs, refused) {
+            Ok(tables) => {
+                let refusal = Refusal {
+                    name,
+                    text,
+                    tables: tables.as_ref(),
+                };
+                push_faults(note, &refusal, inputs, refused, fault);
             }
-        }
+            Err(error) => note.keep(Err(error)),
+        },
         _ => {
             note.put_all(&[name, ": the text has more than "]);
             note.put_number(MAX_MESSAGE_TEXT as u64);
@@ -71,21 +85,66 @@ fn push_refused(note: &mut Note, name: &str, inputs: &Inputs, refused: &RefusedT
     }
 }
 
+/// The words of values with which a text was read, if it was read with some.
+fn tables_of<'i>(
+    alloc: Global,
+    inputs: &'i Inputs,
+    refused: &RefusedText,
+) -> Result<Option<Tables<'i>>, AllocError> {
+    if refused.values {
+        Ok(read_tables(alloc, &inputs.table)?.ok())
+    } else {
+        Ok(None)
+    }
+}
+
+/// Adds the faults of a text, of which this is the first one.
+fn push_faults(
+    note: &mut Note,
+    refusal: &Refusal<'_, '_, '_, '_>,
+    inputs: &Inputs,
+    refused: &RefusedText,
+    fault: &Fault,
+) {
+    let book = &refused.first.book;
+    let is_base = match &inputs.first {
+        Input::Bytes(text) => text.as_slice() == base_text().as_bytes(),
+        Input::TooLong => false,
+    };
+    push_fault(note, refusal, &NamesOf { book, is_base }, fault);
+    if !is_shown(line_of(refusal.text, fault)) {
+        match faults_of(note.allocator(), refusal, book) {
+            Ok(faults) => push_others(note, refusal, book, &faults),
+            Err(error) => note.keep(Err(error)),
+        }
+    }
+}
+
+/// All faults of a text, as it was read.
+fn faults_of(
+    alloc: Global,
+    refusal: &Refusal<'_, '_, '_, '_>,
+    book: &IndexedBook,
+) -> Result<Faults, AllocError> {
+    match refusal.tables {
+        Some(tables) => {
+            let text = numbered(alloc, tables, refusal.text)?;
+            all_faults(alloc, book, text.as_slice())
+        }
+        None => all_faults(alloc, book, refusal.text),
+    }
+}
+
 /// Adds the faults of a text but the first one. That the names are those of the base dictionary is a hint of the first one alone.
-fn push_others(note: &mut Note, name: &str, book: &IndexedBook, text: &[u8]) {
+fn push_others(note: &mut Note, refusal: &Refusal<'_, '_, '_, '_>, book: &IndexedBook, faults: &Faults) {
     let names = NamesOf {
         book,
         is_base: false,
     };
-    match all_faults(note.allocator(), book, text) {
-        Ok(faults) => {
-            for fault in faults.first.iter().skip(1) {
-                push_fault(note, name, &names, text, fault);
-            }
-            push_more(note, name, &faults);
-        }
-        Err(error) => note.keep(Err(error)),
+    for fault in faults.first.iter().skip(1) {
+        push_fault(note, refusal, &names, fault);
     }
+    push_more(note, refusal.name, faults);
 }
 
 /// Adds how many faults weren't reported.
@@ -111,16 +170,40 @@ fn start_of_fault(text: &[u8], fault: &Fault) -> usize {
     start_of_line(text, u32::try_from(fault.line).unwrap_or(u32::MAX))
 }
 
+/// The place of a fault in a text.
+fn place_of(alloc: Global, refusal: &Refusal<'_, '_, '_, '_>, fault: &Fault) -> Result<usize, AllocError> {
+    let text = refusal.text;
+    let start = start_of_fault(text, fault);
+    let Some(at) = fault.at else {
+        return Ok(end_of_words(text, start));
+    };
+    let at = match refusal.tables {
+        Some(tables) => given_place(alloc, tables, line_of(text, fault), at)?,
+        None => at,
+    };
+    Ok(start.saturating_add(at))
+}
+
+/// Adds a fault at its place.
+fn push_fault(note: &mut Note, refusal: &Refusal<'_, '_, '_, '_>, names: &NamesOf<'_>, fault: &Fault) {
+    match place_of(note.allocator(), refusal, fault) {
+        Ok(at) => push_fault_at(note, refusal, names, fault, at),
+        Err(error) => note.keep(Err(error)),
+    }
+}
+
 /// Adds the place of a fault, the word there and what could be in its place, and what may be meant. `names` are those of the
 /// dictionary by which the text was read.
-fn push_fault(note: &mut Note, name: &str, names: &NamesOf<'_>, text: &[u8], fault: &Fault) {
-    let start = start_of_fault(text, fault);
-    let at = match fault.at {
-        Some(at) => start.saturating_add(at),
-        None => end_of_words(text, start),
-    };
+fn push_fault_at(
+    note: &mut Note,
+    refusal: &Refusal<'_, '_, '_, '_>,
+    names: &NamesOf<'_>,
+    fault: &Fault,
+    at: usize,
+) {
+    let text = refusal.text;
     let word = word_at(text, at);
-    note.put_place(name, text, at);
+    note.put_place(refusal.name, text, at);
     if word.is_empty() {
         note.put("no word is left here");
     } else {
@@ -130,14 +213,18 @@ fn push_fault(note: &mut Note, name: &str, names: &NamesOf<'_>, text: &[u8], fau
     }
     note.put_all(&["; expected ", words_of(fault.wanted), "\n"]);
     note.put_excerpt(text, at);
+    let start = start_of_fault(text, fault);
     let before = text.get(..start).unwrap_or(text);
     let line = line_of(text, fault);
-    push_meant(
-        note,
-        names,
-        word,
-        meant_of(fault.wanted, word, line, before),
-    )
+    let column = at.saturating_sub(start);
+    match number_at(note.allocator(), refusal.tables, line, column) {
+        Ok(Some(number)) => push_number(note, word, number),
+        Ok(None) => match meant_of(fault.wanted, word, line, before) {
+            Meant::Word => push_word(note, refusal.tables, line, column, word),
+            meant => push_meant(note, names, word, meant),
+        },
+        Err(error) => note.keep(Err(error)),
+    }
 }
 
 /// Adds what may be meant by a word, and what to do.
@@ -145,7 +232,7 @@ fn push_meant(note: &mut Note, names: &NamesOf<'_>, word: &[u8], meant: Meant) {
     // Nothing where the word is no UTF-8.
     let spelt = str::from_utf8(word).unwrap_or("");
     match meant {
-        Meant::Nothing => {}
+        Meant::Nothing | Meant::Word => {}
         Meant::Command => names.push_command(note, spelt),
         Meant::Avp => names.push_avp(note, spelt),
         Meant::Text => push_quoted(note, word, false),

@@ -2,6 +2,7 @@
 
 use dia_io::Exit;
 use dia_report::{BadInput, ReadBook};
+use dia_show::BadValues;
 use dia_text::Fault;
 use std::fmt;
 
@@ -18,6 +19,8 @@ pub enum BadText {
 #[derive(Drop)]
 pub struct RefusedText {
     pub first: Box<ReadBook>,
+    /// Whether it was read with the words of values that the table's input has.
+    pub values: bool,
     pub why: BadText,
 }
 
@@ -28,6 +31,8 @@ pub enum Report {
     Done,
     /// The dictionary or the message is refused.
     Refused(BadInput),
+    /// The words of values are refused.
+    NoValues(BadValues),
     /// The text is refused.
     Text(RefusedText),
     /// At this byte of the message, outside groups, no AVP begins.

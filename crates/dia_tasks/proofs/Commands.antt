@@ -4,13 +4,14 @@ use Rattle.dia_io.specs.declared.Command.{Command}
 use Rattle.dia_io.specs.declared.Command.TheVariants.{Show, Render, Check, Compare, Refute, Propose}
 use Rattle.dia_io.specs.declared.Inputs.{Inputs}
 use Rattle.dia_cli.specs.declared.origin.Origin.{Origin}
+use Rattle.dia_make.specs.Outcome.{IsMade}
 use Rattle.dia_run.specs.Outcome.{IsOutcome}
 use Rattle.dia_tasks.specs.Endings.{Runs}
-use Rattle.dia_tasks.specs.Answers.{IsText, IsShow}
+use Rattle.dia_tasks.specs.Answers.{IsText, IsShow, IsMadeBy}
 use Rattle.dia_cli.specs.declared.origin.Origin.TheVariants.{Nowhere, Base, Empty, StandardInput, File}
 use Rattle.dia_show.specs.Outcome.{IsNamedOutcome}
 use Rattle.dia_cli.specs.Ending.{Stream}
-use Rattle.std.specs.Prelude.{Result, false}
+use Rattle.std.specs.Prelude.{Result, true, false}
 use Rattle.dia_report.specs.declared.reporting.Reported.{Reported}
 use Rattle.dia_cli.specs.declared.ending.Ending.{Ending}
 
@@ -32,3 +33,12 @@ show_with_words Base inputs out ended other runs = runs
 show_with_words Empty inputs out ended other runs = runs
 show_with_words (StandardInput limit) inputs out ended other runs = runs
 show_with_words (File path limit) inputs out ended other runs = runs
+
+-- the same for `make`
+abbrev pub make_with_words : (table : Origin) (inputs : Inputs) (out : Stream) (ended : Result Reported Ending) → table ≢ Nowhere
+    → Runs (IsMade true inputs) out ended → Runs (IsMadeBy table inputs) out ended
+make_with_words Nowhere inputs out ended other runs = absurd (other refl)
+make_with_words Base inputs out ended other runs = runs
+make_with_words Empty inputs out ended other runs = runs
+make_with_words (StandardInput limit) inputs out ended other runs = runs
+make_with_words (File path limit) inputs out ended other runs = runs

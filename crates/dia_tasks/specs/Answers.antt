@@ -15,6 +15,7 @@ use Rattle.dia_answer.specs.Outcome.{IsAnswerText}
 use Rattle.dia_cli.specs.declared.task.Answering.{Answering}
 use Rattle.dia_cli.specs.declared.origin.Origin.{Origin}
 use Rattle.dia_cli.specs.declared.origin.Origin.TheVariants.{Nowhere}
+use Rattle.dia_make.specs.Outcome.{IsMade}
 use Rattle.dia_run.specs.AllFaults.{IsAllRecorded}
 use Rattle.dia_run.specs.Outcome.{IsMessageOutcome, IsOutcome, IsRenderOutcome}
 use Rattle.dia_run.specs.Texts.{line}
@@ -36,6 +37,11 @@ IsJson (Propose u names) inputs text exit = IsProposeJson u (map (λ name. strin
 abbrev pub IsShow : Origin → Inputs → List ℕ → Exit → Type 0
 IsShow Nowhere inputs text exit = IsOutcome Show inputs text exit
 IsShow table inputs text exit = IsNamedOutcome false inputs text exit
+
+-- `make` with words of values, where a table is named
+abbrev pub IsMadeBy : Origin → Inputs → List ℕ → Exit → Type 0
+IsMadeBy Nowhere inputs text exit = IsMade false inputs text exit
+IsMadeBy table inputs text exit = IsMade true inputs text exit
 
 -- `show` with words of values, with `--names` or without: as JSON, if that is asked for
 abbrev pub IsNamed : Bool → Bool → Inputs → List ℕ → Exit → Type 0

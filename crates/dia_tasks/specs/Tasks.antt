@@ -2,7 +2,6 @@
 use Rattle.std.specs.Prelude.{IsTrue, ◌≡◌, ℕ, Bool, true, List, Option, Result, Ok, Err, map, string_bytes}
 use Rattle.dia_io.specs.declared.Inputs.{Inputs}
 use Rattle.dia_captures.specs.declared.summaries.Lines.TheVariants.{Checked, Refuted, Placed}
-use Rattle.dia_make.specs.Outcome.{IsMakeOutcome}
 use Rattle.dia_make.specs.Shown.{IsShowTextOutcome}
 use Rattle.dia_report.specs.declared.reporting.Reported.{Reported}
 use Rattle.dia_cli.specs.Ending.{Stream}
@@ -10,7 +9,7 @@ use Rattle.dia_cli.specs.declared.ending.Ending.{Ending}
 use Rattle.dia_cli.specs.declared.origin.Origins.{Origins}
 use Rattle.dia_cli.specs.declared.task.Task.{Task}
 use Rattle.dia_cli.specs.declared.task.Task.TheVariants as task
-use Rattle.dia_tasks.specs.Answers.{IsAllFaults, IsAnswer, IsNamed, IsReplied}
+use Rattle.dia_tasks.specs.Answers.{IsAllFaults, IsAnswer, IsMadeBy, IsNamed, IsReplied}
 use Rattle.dia_tasks.specs.Captures.{Captures, Lists, known_of, messages_word}
 use Rattle.dia_tasks.specs.Connections.{Follows}
 use Rattle.dia_tasks.specs.Lints.{question_of}
@@ -39,7 +38,7 @@ messages_of w origins = known_of w.content w.standard origins.messages
 -- a task with its options
 abbrev pub TaskRuns : Task → Bool → World → Origins → Inputs → Stream → Result Reported Ending → Type 0
 TaskRuns (task.Whole command) json w origins inputs out ended = Runs (IsAnswer json origins.table command inputs) out ended
-TaskRuns task.Make json w origins inputs out ended = Runs (IsMakeOutcome inputs) out ended
+TaskRuns task.Make json w origins inputs out ended = Runs (IsMadeBy origins.table inputs) out ended
 TaskRuns task.ShowText json w origins inputs out ended = Runs (IsShowTextOutcome inputs) out ended
 TaskRuns task.ShowNamed json w origins inputs out ended = Runs (IsNamed json true inputs) out ended
 TaskRuns (task.ShowLines names) json w origins inputs out ended =

@@ -102,8 +102,8 @@ where
         Task::ShowLines { names } => {
             Attempt::Ended(list_lines(rt, opener, *names, inputs, origins, manner, out))
         }
-        Task::Make => Attempt::Ended(made(rt, inputs, origins.message, quiet, out)),
-        Task::ShowText => Attempt::Ended(shown(rt, inputs, origins.message, quiet, out)),
+        Task::Make => Attempt::Ended(made(rt, inputs, origins, quiet, out)),
+        Task::ShowText => Attempt::Ended(shown(rt, inputs, origins, quiet, out)),
         Task::CheckLines { unknown, levels } => {
             let capture = Capture::new(Lines::Checked, *unknown, *levels);
             Attempt::Ended(captured(rt, opener, capture, inputs, origins, manner, out))

@@ -113,7 +113,7 @@ pub fn recorded_of<R: Eprint>(
         Report::OfShow(report) => report,
         Report::NoValues(bad) => {
             if !quiet {
-                deliver(rt, word_of(origins.table), bad);
+                report_no_values(rt, word_of(origins.table), bad);
             }
             dia_report::Report::Done
         }
@@ -122,7 +122,7 @@ pub fn recorded_of<R: Eprint>(
 }
 
 /// Writes to standard error why words of values are refused. Where the device fails, nothing is written.
-fn deliver<R: Eprint>(rt: &R, name: &str, bad: BadValues) {
+pub fn report_no_values<R: Eprint>(rt: &R, name: &str, bad: BadValues) {
     match bad {
         BadValues::TooLong => {
             let _ = eprint!(rt; "{name}: the text has more than {MAX_VALUES} bytes\n");

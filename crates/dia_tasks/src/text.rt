@@ -2,24 +2,27 @@
 
 ghost use Rattle.std.specs.Prelude.{◌≡◌, IfOk, IfErr, IsTrue, false};
 ghost use Rattle.dia_cli.specs.Ending.{stream};
-ghost use Rattle.dia_make.specs.Outcome.{IsMakeOutcome};
+ghost use Rattle.dia_make.specs.Outcome.{IsMade};
 ghost use Rattle.dia_make.specs.Shown.{IsShowTextOutcome};
+ghost use Rattle.dia_tasks.specs.Answers.{IsMadeBy};
 ghost use Rattle.dia_tasks.specs.Endings.{Breaks, Runs, Writes};
 
 use crate::inputs::word_of;
 use crate::recording::report_made;
-use dia_cli::{Ending, Origin, STANDARD_OUTPUT};
+use crate::showing::report_no_values;
+use dia_cli::{Ending, Origin, Origins, STANDARD_OUTPUT};
 use dia_io::{Inputs, Sink, ToWriter};
 use dia_make::{make, note, show_text};
 use dia_report::{Report, Reported};
 use std::alloc::Global;
 use std::io::Write;
 
-/// Writes the messages that a text makes, and explains why it makes none, unless it is to be quiet.
+/// Writes the messages that a text makes, with words of values where a table of them is named, and explains why it makes none, unless
+/// it is to be quiet.
 pub fn made<'a, R, W>(
     rt: &R,
     inputs: &Inputs,
-    text: Origin<'a>,
+    origins: &Origins<'a>,
     quiet: bool,
     out: &mut ToWriter<W>,
 ) -> Result<Reported, Ending<'a>>
@@ -27,12 +30,35 @@ where
     R: AllocGlobal + Eprint,
     W: Write,
     requires { ¬ IsTrue (⟦<ToWriter<W> as Sink>⟧.has_failed out.old) }
-    ensures { Runs (IsMakeOutcome inputs.now)
+    ensures { Runs (IsMadeBy origins.now.table inputs.now)
         (stream (⟦<ToWriter<W> as Sink>⟧.written out.old) (⟦<ToWriter<W> as Sink>⟧.written out.new)
         (⟦<ToWriter<W> as Sink>⟧.has_failed out.new)) result }
 {
-    match make(rt.alloc(), inputs, out) {
-        Ok(made) => Ok(explained(rt, made, inputs, text, quiet)),
+    match origins.table {
+        Origin::Nowhere => make_all(rt, false, inputs, origins, quiet, out),
+        _ => make_all(rt, true, inputs, origins, quiet, out),
+    }
+}
+
+/// Writes the messages that a text makes, with words of values or without them.
+fn make_all<'a, R, W>(
+    rt: &R,
+    values: bool,
+    inputs: &Inputs,
+    origins: &Origins<'a>,
+    quiet: bool,
+    out: &mut ToWriter<W>,
+) -> Result<Reported, Ending<'a>>
+where
+    R: AllocGlobal + Eprint,
+    W: Write,
+    requires { ¬ IsTrue (⟦<ToWriter<W> as Sink>⟧.has_failed out.old) }
+    ensures { Runs (IsMade values inputs.now)
+        (stream (⟦<ToWriter<W> as Sink>⟧.written out.old) (⟦<ToWriter<W> as Sink>⟧.written out.new)
+        (⟦<ToWriter<W> as Sink>⟧.has_failed out.new)) result }
+{
+    match make(rt.alloc(), values, inputs, out) {
+        Ok(made) => Ok(explained(rt, made, inputs, origins, quiet)),
         Err(fault) => Err(Ending::of_run(fault, STANDARD_OUTPUT, out.failure())),
     }
 }
@@ -41,7 +67,7 @@ where
 pub fn shown<'a, R, W>(
     rt: &R,
     inputs: &Inputs,
-    message: Origin<'a>,
+    origins: &Origins<'a>,
     quiet: bool,
     out: &mut ToWriter<W>,
 ) -> Result<Reported, Ending<'a>>
@@ -56,7 +82,7 @@ where
     let mut bytes = Vec::new(rt.alloc());
     match put_shown(rt.alloc(), inputs, &mut bytes, out) {
         Ok(shown) => {
-            let reported = explained(rt, shown, inputs, message, quiet);
+            let reported = explained(rt, shown, inputs, origins, quiet);
             Ok(with_message(reported, bytes))
         }
         Err(ending) => Err(ending),
@@ -104,17 +130,24 @@ fn explained<R: AllocGlobal + Eprint>(
     rt: &R,
     made: dia_make::Reported,
     inputs: &Inputs,
-    message: Origin<'_>,
+    origins: &Origins<'_>,
     quiet: bool,
 ) -> Reported
     ensures { result.exit ≡ made.exit }
 {
     let dia_make::Reported { exit, report } = made;
     if !quiet {
-        report_made(rt, note(rt.alloc(), word_of(message), inputs, &report));
+        let text = word_of(origins.message);
+        report_made(rt, note(rt.alloc(), text, inputs, &report));
     }
     let report = match report {
         dia_make::Report::Refused(bad) => Report::Refused(bad),
+        dia_make::Report::NoValues(bad) => {
+            if !quiet {
+                report_no_values(rt, word_of(origins.table), bad);
+            }
+            Report::Done
+        }
         dia_make::Report::Text(_recorded) => Report::Done,
         dia_make::Report::Done | dia_make::Report::Cut { .. } => Report::Done,
     };

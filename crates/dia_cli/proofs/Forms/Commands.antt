@@ -39,8 +39,8 @@ module _ (policies senders : Bor (List (Bor Text))) (two : texts policies.now �
   pub form_fits : (quiet : Bool) (form : Form) → IsRow (shape policies senders (form_row form)) (all_options quiet form) (form_inputs form)
   form_fits quiet (show recording dictionary message) =
       row_fits policies senders two three show_row _ _ refl (refl, tt, (refl, tt, (refl, tt, (refl, tt, (refl, tt, (refl, tt, (refl, tt, tt))))))) (record { by_index = refl; by_id = refl; next = refl }, tt) refl refl refl refl
-  form_fits quiet (make dictionary written) =
-      row_fits policies senders two three make_row _ _ refl (refl, tt, (refl, tt, tt)) (record { by_index = refl; by_id = refl; next = refl }, tt) refl refl refl refl
+  form_fits quiet (make dictionary values written) =
+      row_fits policies senders two three make_row _ _ refl (refl, tt, (refl, tt, (refl, tt, tt))) (record { by_index = refl; by_id = refl; next = refl }, tt) refl refl refl refl
   form_fits quiet (check manner json unknown levels dictionary message) =
       row_fits policies senders two three check_row _ _ refl (refl, tt, (refl, policy_passes policies senders two three unknown, (refl, tt, (refl, tt, (refl, tt, (refl, tt, (refl, tt, tt)))))))
       (record { by_index = refl; by_id = refl; next = refl }, (record { by_index = refl; by_id = refl; next = refl }, tt)) refl refl refl refl
@@ -86,7 +86,7 @@ module _ (policies senders : Bor (List (Bor Text))) (two : texts policies.now �
   pub form_named : (form : Form) → Names_at (built (line_shape policies senders)) (form_name form) (shape policies senders (form_row form)) × ((shape policies senders (form_row form)).name ≡ form_name form)
   unfolding clap_on_literals
   form_named (show recording dictionary message) = (record { stops = refl; fine = refl; finds = refl; rest = refl }, refl)
-  form_named (make dictionary written) = (record { stops = refl; fine = refl; finds = refl; rest = refl }, refl)
+  form_named (make dictionary values written) = (record { stops = refl; fine = refl; finds = refl; rest = refl }, refl)
   form_named (check manner json unknown levels dictionary message) = (record { stops = refl; fine = refl; finds = refl; rest = refl }, refl)
   form_named (render dictionary) = (record { stops = refl; fine = refl; finds = refl; rest = refl }, refl)
   form_named (compare json unknown first second table) = (record { stops = refl; fine = refl; finds = refl; rest = refl }, refl)
@@ -111,7 +111,9 @@ SaysForm (show recording dictionary message) rows =
     (first_of (codes "dict") rows ≡ Some (unwrap_or dictionary (codes "@base"))) × (first_of (codes "MESSAGE") rows ≡ Some message)
     × (first_of (codes "as-text") rows ≡ Some (flag_word (is_text recording))) × (first_of (codes "names") rows ≡ Some (flag_word (has_names recording)))
     × (first_of (codes "values") rows ≡ Some (unwrap_or (values_given recording) (codes "@none"))) × (first_of (codes "lines") rows ≡ Some (flag_word (has_lines recording)))
-SaysForm (make dictionary written) rows = (first_of (codes "dict") rows ≡ Some (unwrap_or dictionary (codes "@base"))) × (first_of (codes "TEXT") rows ≡ Some written)
+SaysForm (make dictionary values written) rows =
+    (first_of (codes "dict") rows ≡ Some (unwrap_or dictionary (codes "@base"))) × (first_of (codes "TEXT") rows ≡ Some written)
+    × (first_of (codes "values") rows ≡ Some (unwrap_or values (codes "@none")))
 SaysForm (check manner json unknown levels dictionary message) rows =
     (first_of (codes "lines") rows ≡ Some (flag_word (is_lines manner))) × (first_of (codes "stream") rows ≡ Some (flag_word (is_stream manner)))
     × (first_of (codes "unknown") rows ≡ Some (policy_word unknown)) × (first_of (codes "levels") rows ≡ levels)
@@ -173,8 +175,11 @@ module _ (policies senders : Bor (List (Bor Text))) (quiet : Bool) (rows : List 
     ),
     flag_given (is_json recording) (first (codes "json") ∙ flag_found (is_json recording)),
   )
-  form_says (make dictionary written) first all =
-      (first (codes "quiet") ∙ flag_found quiet, (first (codes "dict") ∙ text_found dictionary (codes "@base"), first (codes "TEXT")), not_given (first (codes "json")))
+  form_says (make dictionary values written) first all = (
+    first (codes "quiet") ∙ flag_found quiet,
+    (first (codes "dict") ∙ text_found dictionary (codes "@base"), first (codes "TEXT"), first (codes "values") ∙ text_found values (codes "@none")),
+    not_given (first (codes "json")),
+  )
   form_says (check manner json unknown levels dictionary message) first all = (
     first (codes "quiet") ∙ flag_found quiet,
     (
@@ -296,8 +301,8 @@ module _ (policies senders : Bor (List (Bor Text))) (quiet : Bool) (rows : List 
 pub form_has : (form : Form) (rows : List Row) → is_plain_form form ≡ true → SaysForm form rows → has_arguments (form_name form) rows ≡ true
 form_has (show recording dictionary message) rows plain says =
     also (has_some _ (unwrap_or dictionary (codes "@base")) says.0) (also (has_some _ message says.1) (has_some _ (unwrap_or (values_given recording) (codes "@none")) says.4))
-form_has (make dictionary written) rows plain says =
-    also (has_some _ (unwrap_or dictionary (codes "@base")) says.0) (has_some _ written says.1)
+form_has (make dictionary values written) rows plain says =
+    also (has_some _ (unwrap_or dictionary (codes "@base")) says.0) (also (has_some _ written says.1) (has_some _ (unwrap_or values (codes "@none")) says.2))
 form_has (check manner json unknown levels first second) rows plain says =
     also (has_flag _ (is_lines manner) says.0) (also (has_flag _ (is_stream manner) says.1)
     (also (has_flag _ (is_full manner) says.6) (also (has_flag _ (json_of manner json) says.7)
@@ -346,13 +351,13 @@ pub asked_is : (form : Form) (rows : List Row) (task : Task) (origins : Origins)
 asked_is (show as_text dictionary message) rows ShowText origins says named is found =
     (tt, message_named origins rows (codes "dict") (unwrap_or dictionary (codes "@base")) (codes "MESSAGE") message says.0 says.1 found)
 asked_is (show (as_json false false values) dictionary message) rows (Whole command.Show) origins says named is found =
-    (tt, listing_named origins rows (unwrap_or dictionary (codes "@base")) message (unwrap_or values (codes "@none")) says.0 says.1 says.4 found)
+    (tt, listing_named origins rows (unwrap_or dictionary (codes "@base")) (codes "MESSAGE") message (unwrap_or values (codes "@none")) says.0 says.1 says.4 found)
 asked_is (show (as_json false true values) dictionary message) rows ShowNamed origins says named is found =
-    (tt, listing_named origins rows (unwrap_or dictionary (codes "@base")) message (unwrap_or values (codes "@none")) says.0 says.1 says.4 found)
+    (tt, listing_named origins rows (unwrap_or dictionary (codes "@base")) (codes "MESSAGE") message (unwrap_or values (codes "@none")) says.0 says.1 says.4 found)
 asked_is (show (as_listing false false values) dictionary message) rows (Whole command.Show) origins says named is found =
-    (tt, listing_named origins rows (unwrap_or dictionary (codes "@base")) message (unwrap_or values (codes "@none")) says.0 says.1 says.4 found)
+    (tt, listing_named origins rows (unwrap_or dictionary (codes "@base")) (codes "MESSAGE") message (unwrap_or values (codes "@none")) says.0 says.1 says.4 found)
 asked_is (show (as_listing false true values) dictionary message) rows ShowNamed origins says named is found =
-    (tt, listing_named origins rows (unwrap_or dictionary (codes "@base")) message (unwrap_or values (codes "@none")) says.0 says.1 says.4 found)
+    (tt, listing_named origins rows (unwrap_or dictionary (codes "@base")) (codes "MESSAGE") message (unwrap_or values (codes "@none")) says.0 says.1 says.4 found)
 asked_is (show (as_json true names values) dictionary messages) rows (ShowLines many) origins says named is found =
     (same_given _ names many says.3 is.1, listings_named origins rows (unwrap_or dictionary (codes "@base")) messages (unwrap_or values (codes "@none")) says.0 says.1 says.4 found)
 asked_is (show (as_listing true names values) dictionary messages) rows (ShowLines many) origins says named is found =
@@ -378,8 +383,8 @@ asked_is (show (as_json true names values) dictionary message) rows ShowText ori
 asked_is (show (as_listing true names values) dictionary message) rows ShowText origins says named is found = other_given _ false true says.2 is.0 not_false
 asked_is (show (as_json true names values) dictionary message) rows ShowNamed origins says named is found = other_given _ true false says.5 is.2 not_true
 asked_is (show (as_listing true names values) dictionary message) rows ShowNamed origins says named is found = other_given _ true false says.5 is.2 not_true
-asked_is (make dictionary written) rows Make origins says named is found =
-    (tt, message_named origins rows (codes "dict") (unwrap_or dictionary (codes "@base")) (codes "TEXT") written says.0 says.1 found)
+asked_is (make dictionary values written) rows Make origins says named is found =
+    (tt, listing_named origins rows (unwrap_or dictionary (codes "@base")) (codes "TEXT") written (unwrap_or values (codes "@none")) says.0 says.1 says.2 found)
 asked_is (render dictionary) rows (Whole command.Render) origins says named is found = (tt, one_named origins rows (codes "D") dictionary says found)
 asked_is (check alone json unknown levels first second) rows (Whole (command.Check policy limit)) origins says named is found =
     ((same_policy _ _ _ is.2.0 says.2, same_limit _ _ limit says.3 is.2.1), message_named origins rows (codes "D") first (codes "MESSAGE") second says.4 says.5 found)
@@ -459,7 +464,7 @@ asked_is (examples layout unknown dictionary names) rows (Examples asked) origin
   one_named origins rows (codes "D") dictionary says.1 found,
 )
 asked_is (breaking json sends unknown messages once meaning allowed explained accepted first second names) rows (Whole command.Show) origins says named is found = unlike (codes "breaking") (codes "show") refl named
-asked_is (make dictionary written) rows (Whole command.Show) origins says named is found = unlike (codes "make") (codes "show") refl named
+asked_is (make dictionary values written) rows (Whole command.Show) origins says named is found = unlike (codes "make") (codes "show") refl named
 asked_is (answer unknown levels host realm dictionary message) rows (Whole command.Show) origins says named is found = unlike (codes "answer") (codes "show") refl named
 asked_is (follow json middle judged unknown levels dictionary connection) rows (Whole command.Show) origins says named is found = unlike (codes "follow") (codes "show") refl named
 asked_is (mask avps json dictionary messages) rows (Whole command.Show) origins says named is found = unlike (codes "mask") (codes "show") refl named

@@ -144,14 +144,14 @@ module _ (origins : Origins) (rows : List Row) where
   one_table_named id dictionary input table says text found =
       (named _ id dictionary origins.first rows says found.0, found.1, named _ input table origins.table rows text found.2, found.3, found.4)
 
-  pub listing_named : (dictionary message values : Text) → first_of (codes "dict") rows ≡ Some dictionary → first_of (codes "MESSAGE") rows ≡ Some message → first_of (codes "values") rows ≡ Some values
-      → AreFound (record (one_text (codes "dict")) { table = Some (codes "values"); message = Some (codes "MESSAGE") }) origins rows
+  pub listing_named : (dictionary input message values : Text) → first_of (codes "dict") rows ≡ Some dictionary → first_of input rows ≡ Some message → first_of (codes "values") rows ≡ Some values
+      → AreFound (record (one_text (codes "dict")) { table = Some (codes "values"); message = Some input }) origins rows
       → AreNamed (record (one_text dictionary) { table = Some values; message = Some message }) origins
-  listing_named dictionary message values says text file found = (
+  listing_named dictionary input message values says text file found = (
     named _ (codes "dict") dictionary origins.first rows says found.0,
     found.1,
     named _ (codes "values") values origins.table rows file found.2,
-    named _ (codes "MESSAGE") message origins.message rows text found.3,
+    named _ input message origins.message rows text found.3,
     found.4,
   )
 

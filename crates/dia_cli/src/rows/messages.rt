@@ -5,7 +5,7 @@ ghost use Rattle.dia_cli.specs.Lines.{command_of};
 ghost use Rattle.dia_cli.specs.Rows.{answer_row, check_row, follow_row, make_row, mask_row, show_row};
 
 use crate::origin::NO_TABLE;
-use crate::rows::options::{D, DICT, JSON, LEVELS, QUIET, UNKNOWN};
+use crate::rows::options::{D, DICT, JSON, LEVELS, QUIET, UNKNOWN, VALUES};
 use crate::rows::{CommandRow, Count, InputRow, OptionRow, Value};
 
 const SHOW: CommandRow<'static> = CommandRow {
@@ -24,14 +24,7 @@ const SHOW: CommandRow<'static> = CommandRow {
             value: Value::Nothing,
             help: "Prints flags as letters, the name of the command, dates, and texts as texts, with levels indented",
         },
-        OptionRow {
-            id: "values",
-            value: Value::Word {
-                name: "FILE",
-                default: NO_TABLE,
-            },
-            help: "The words of numbers, as lines AVP-NAME NUMBER WORD: a file, @none, or - for standard input",
-        },
+        VALUES,
         OptionRow {
             id: "lines",
             value: Value::Nothing,
@@ -49,7 +42,7 @@ const SHOW: CommandRow<'static> = CommandRow {
 const MAKE: CommandRow<'static> = CommandRow {
     name: "make",
     about: "Prints the messages that a text writes, a line of hexadecimal text each",
-    options: &[QUIET, DICT],
+    options: &[QUIET, DICT, VALUES],
     inputs: &[InputRow {
         id: "TEXT",
         count: Count::One,

@@ -1,6 +1,6 @@
 //! Options and inputs that several commands have.
 
-use crate::origin::BASE_DICTIONARY;
+use crate::origin::{BASE_DICTIONARY, NO_TABLE};
 use crate::rows::{Count, InputRow, OptionRow, Value};
 
 pub(super) const QUIET: OptionRow<'static> = OptionRow {
@@ -43,6 +43,15 @@ pub(super) const DICT: OptionRow<'static> = OptionRow {
         default: BASE_DICTIONARY,
     },
     help: "The dictionary that names the AVPs: a file, @base, @none, or - for standard input",
+};
+
+pub(super) const VALUES: OptionRow<'static> = OptionRow {
+    id: "values",
+    value: Value::Word {
+        name: "FILE",
+        default: NO_TABLE,
+    },
+    help: "The words of numbers, as lines AVP-NAME NUMBER WORD: a file, @none, or - for standard input",
 };
 
 pub(super) const D: InputRow<'static> = InputRow {

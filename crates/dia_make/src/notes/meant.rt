@@ -1,6 +1,7 @@
 //! What may be meant by a word that is at fault.
 
 use crate::notes::shown::is_shown;
+use crate::numbered::{has_letter, may_be_word};
 use dia_text::Wanted;
 use std::str;
 
@@ -36,6 +37,8 @@ pub enum Meant {
     Comma,
     /// The next member of a group on one line, without a comma before it.
     Member,
+    /// A word of values.
+    Word,
 }
 
 /// What may be meant by a word in place of what is wanted. `line` has the word, and `before` is the text before the line.
@@ -44,10 +47,12 @@ pub fn meant_of(wanted: Wanted, word: &[u8], line: &[u8], before: &[u8]) -> Mean
         _ if is_shown(line) => Meant::Shown,
         Wanted::CommandName | Wanted::AvpName | Wanted::Hop | Wanted::End | Wanted::AnyValue
             if has_sign(word) => { Meant::Sign }
-        Wanted::CommandName => Meant::Command,
+        Wanted::CommandName if has_letter(word) => Meant::Command,
         Wanted::AvpName if before.ends_with(b"\n\r\n") => Meant::Returns,
-        Wanted::AvpName => Meant::Avp,
+        Wanted::AvpName if has_letter(word) => Meant::Avp,
         Wanted::Text | Wanted::TextOrBytes | Wanted::BytesOfUnknown => meant_text(wanted, word),
+        Wanted::Unsigned32 | Wanted::Signed32 | Wanted::Unsigned64 | Wanted::Signed64
+            if may_be_word(word) && !has_sign(word) => { Meant::Word }
         Wanted::Unsigned32
         | Wanted::Signed32
         | Wanted::Unsigned64

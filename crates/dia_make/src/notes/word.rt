@@ -1,5 +1,7 @@
 //! The word at a place of a text.
 
+use crate::words::{is_blank, is_mark};
+
 /// The word that begins at a place. A text in quotes is one word, also where its closing quote is missing, and so is a brace or a
 /// comma. The word is empty at a comment and at the end of a line.
 pub fn word_at(text: &[u8], at: usize) -> &[u8] {
@@ -23,11 +25,7 @@ fn quoted_length(following: &[u8]) -> usize {
 }
 
 fn is_of_word(byte: u8) -> bool {
-    !is_mark(byte) && !matches!(byte, b' ' | b'\t' | b'\r' | b'\n' | b'#' | b';')
-}
-
-fn is_mark(byte: u8) -> bool {
-    matches!(byte, b'{' | b'}' | b',')
+    !is_mark(byte) && !is_blank(byte) && !matches!(byte, b'\n' | b'#' | b';')
 }
 
 /// The place after the last word of the line that begins at a place: that of its comment, or of its end.
@@ -46,7 +44,5 @@ pub fn end_of_words(text: &[u8], start: usize) -> usize {
 
 fn blanks_at(text: &[u8], at: usize) -> usize {
     let rest = text.get(at..).unwrap_or(b"".as_slice());
-    rest.iter()
-        .take_while(|byte| matches!(byte, b' ' | b'\t' | b'\r'))
-        .count()
+    rest.iter().take_while(|byte| is_blank(**byte)).count()
 }

@@ -1,0 +1,7 @@
+use Rattle.std.proofs.Common.{◌≡◌, ◌+◌, drop}
+use Rattle.std.specs.List.{prefix_len}
+use Rattle.dia_text.specs.Words.{is_word_byte}
+use Rattle.dia_make.proofs.words.letters_len.Given as goal
+
+abbrev pub invariant-loop-index : goal.invariant-loop-index
+invariant-loop-index l = prefix_len is_word_byte l.bytes ≡ l.index + prefix_len is_word_byte (drop l.index l.bytes)
