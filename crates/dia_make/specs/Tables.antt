@@ -1,5 +1,5 @@
 -- What tables of words and numbers hold.
-use Rattle.std.specs.Prelude.{◌≡◌, ℕ, List, Option, map}
+use Rattle.std.specs.Prelude.{◌≡◌, ℕ, List, map}
 use Rattle.std.specs.Map.{lookup}
 use Rattle.dia_show.specs.Words.{Word, is_key, plain_word}
 use Rattle.dia_make.specs.declared.numbered.Insertion.{Insertion}

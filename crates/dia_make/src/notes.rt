@@ -136,7 +136,12 @@ fn faults_of(
 }
 
 /// Adds the faults of a text but the first one. That the names are those of the base dictionary is a hint of the first one alone.
-fn push_others(note: &mut Note, refusal: &Refusal<'_, '_, '_, '_>, book: &IndexedBook, faults: &Faults) {
+fn push_others(
+    note: &mut Note,
+    refusal: &Refusal<'_, '_, '_, '_>,
+    book: &IndexedBook,
+    faults: &Faults,
+) {
     let names = NamesOf {
         book,
         is_base: false,
@@ -171,7 +176,11 @@ fn start_of_fault(text: &[u8], fault: &Fault) -> usize {
 }
 
 /// The place of a fault in a text.
-fn place_of(alloc: Global, refusal: &Refusal<'_, '_, '_, '_>, fault: &Fault) -> Result<usize, AllocError> {
+fn place_of(
+    alloc: Global,
+    refusal: &Refusal<'_, '_, '_, '_>,
+    fault: &Fault,
+) -> Result<usize, AllocError> {
     let text = refusal.text;
     let start = start_of_fault(text, fault);
     let Some(at) = fault.at else {
@@ -185,7 +194,12 @@ fn place_of(alloc: Global, refusal: &Refusal<'_, '_, '_, '_>, fault: &Fault) -> 
 }
 
 /// Adds a fault at its place.
-fn push_fault(note: &mut Note, refusal: &Refusal<'_, '_, '_, '_>, names: &NamesOf<'_>, fault: &Fault) {
+fn push_fault(
+    note: &mut Note,
+    refusal: &Refusal<'_, '_, '_, '_>,
+    names: &NamesOf<'_>,
+    fault: &Fault,
+) {
     match place_of(note.allocator(), refusal, fault) {
         Ok(at) => push_fault_at(note, refusal, names, fault, at),
         Err(error) => note.keep(Err(error)),

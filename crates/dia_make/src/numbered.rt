@@ -78,7 +78,11 @@ fn push_piece(made: &mut Vec<u8>, tables: &Tables<'_>, piece: &[u8]) -> Result<(
 }
 
 /// Adds a piece with this number and a blank in front of the word for it.
-fn push_lacked(made: &mut Vec<u8>, piece: &[u8], found: &Insertion<'_, '_>) -> Result<(), AllocError>
+fn push_lacked(
+    made: &mut Vec<u8>,
+    piece: &[u8],
+    found: &Insertion<'_, '_>,
+) -> Result<(), AllocError>
     ensures { OnOk result (made.new.items ≡ made.old.items ++ with_lacked piece.now (Some (plain_insertion found.now))) }
 {
     let front = piece.len().saturating_sub(found.rest.len());

@@ -1,4 +1,4 @@
-use Rattle.std.proofs.Common.{arith, length, subst, take, ap, ◌≡◌, suc}
+use Rattle.std.proofs.Common.{arith, length, subst, take, ap, ◌≡◌}
 use Rattle.std.specs.List.{flat_map}
 use Rattle.std.specs.Str.Lines.{lines}
 use Rattle.std.proofs.lemmas.List.{length_push, take_all}
