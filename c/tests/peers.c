@@ -134,7 +134,7 @@ static void a_relay_has_what_the_other_names(void) {
     EXPECT(dia_peer_serves(&b, 0, &serves) == DIA_IS_CLOSED && serves == 99);
     EXPECT(dia_peer_open(DIA_RESPONDER, host, 3, realm, 1, product, 1, &address, 1, &relay, 1, &numbers, &b, &fault) == DIA_REFUSED
            && fault == DIA_BAD_APPLICATION);
-    EXPECT(dia_peer_open_as(DIA_RESPONDER, 2, host, 3, realm, 1, product, 1, &address, 1, &relay, 1, &numbers, &b, &fault)
+    EXPECT(dia_peer_open_as(DIA_RESPONDER, 16, host, 3, realm, 1, product, 1, &address, 1, &relay, 1, &numbers, &b, &fault)
            == DIA_BAD_ARGUMENT);
     EXPECT(dia_peer_open_as(DIA_RESPONDER, DIA_MANNER_RELAYS, host, 3, realm, 1, product, 1, &address, 1, &relay, 1, &numbers, &b,
                             &fault)
