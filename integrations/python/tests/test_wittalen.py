@@ -10,7 +10,7 @@ import threading
 import unittest
 
 import wittalen
-from wittalen import Application, Dictionary, Outcome, Peer, Role, Sends, State, Timer, Why, dictionaries
+from wittalen import Application, Cause, Dictionary, Outcome, Peer, Role, Sends, State, Timer, Why, dictionaries
 
 # a request of the command 280 without its AVPs, of which Origin-Host is the first (RFC 6733 section 5.5.1)
 BARE = bytes.fromhex("0100001480000118000000000000000100000002")
