@@ -10,6 +10,7 @@ pub mod LevelsOfParts
 pub mod MadeAvps
 pub mod MadeLevels
 pub mod Messages
+pub mod NormalSets
 pub mod Places
 pub mod Reported
 pub mod RulesThatSayNothing

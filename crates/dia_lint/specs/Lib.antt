@@ -8,6 +8,7 @@ pub mod Gathered
 pub mod GuidelineLines
 pub mod Guidelines
 pub mod LevelParts
+pub mod NormalForms
 pub mod Overlaps
 pub mod OwnRules
 pub mod Pairs

@@ -46,7 +46,7 @@ fn same_command<B: Book>(
     };
     let own = Normal::of(alloc, &book.def(def).rules)?;
     let theirs = Normal::of(alloc, &book.def(other).rules)?;
-    if own == theirs {
+    if own.asks_same(&theirs) {
         Ok(Some(other))
     } else {
         Ok(None)
