@@ -1,3 +1,4 @@
+pub mod Blind
 pub mod Choosing
 pub mod Followed
 pub mod Kinds
