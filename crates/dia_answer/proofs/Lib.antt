@@ -15,3 +15,5 @@ pub mod Reasons
 pub mod Replies
 pub mod Building
 pub mod CerAnswers
+pub mod Ways
+pub mod Nests

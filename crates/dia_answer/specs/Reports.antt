@@ -28,7 +28,8 @@ use Rattle.dia_answer.specs.declared.contents.Extent.{Extent}
 use Rattle.dia_answer.specs.declared.forms.NoAnswer.{NoAnswer}
 use Rattle.dia_answer.specs.declared.forms.NoAnswer.TheVariants as no_answer
 use Rattle.dia_answer.specs.Dictionaries.{opaque}
-use Rattle.dia_answer.specs.Requests.{AreRequestAvps, IsOfHeader, IsRequestHead}
+use Rattle.dia_answer.specs.Failed.{IsFailed}
+use Rattle.dia_answer.specs.Requests.{AreRequestAvps, IsRequestHead}
 use Rattle.dia_answer.specs.Stocks.{IsFitOf, copied, may_be_unlisted}
 use Rattle.dia_answer.specs.Bodies.{AreThose, IsSession, IsStock, Parts, in_order, of_key, proxy_info, session_id}
 use Rattle.dia_answer.specs.Sources.{in_extent, parts_of}
@@ -105,8 +106,9 @@ pub record AreParts (d : Dictionary) (u : Unknown) (most : Levels) (host realm r
   pub text : List ℕ
   pub has_text : p.line ≡ Some text
   pub is_line : line text ≡ fault_line d fault
-  -- section 7.5: it holds AVPs, so a fault of the header has none
-  pub none : IsOfHeader fault.reason → p.failed ≡ None
+  pub header : Header
+  pub is_header : IsRequestHead header request
+  pub is_failed : IsFailed d header request fault p.failed
 
 -- all AVPs of the answer, in their order: by the rules of its form's command, with Error-Message and Failed-AVP or without them
 pub record HasBody (d : Dictionary) (u : Unknown) (most : Levels) (host realm request : List ℕ) (made : Made) : Type 0 where
