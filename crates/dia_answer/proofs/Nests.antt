@@ -15,7 +15,7 @@ length-head v n = by v.vendor
     by (Some vendor) = refl
 
 pub length-nested : (groups : List PlainStep) (inner : List ℕ) → length (nested groups inner) ≡ heads_length groups + length inner
-length-nested [] inner = refl
+length-nested [] inner = omega arith
 length-nested (s ∷ groups) inner =
     let n = head_length s.group.vendor + length (nested groups inner) in
     omega (arith, length-append (head_bytes s.group n) (nested groups inner), length-head s.group n, length-nested groups inner)

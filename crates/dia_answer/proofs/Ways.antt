@@ -1,5 +1,5 @@
 -- The groups around a place, found one after the other.
-use Rattle.std.proofs.Common.{◌≡◌, ℕ, suc, ◌+◌, ◌-◌, ◌<◌, ◌≤◌, Bool, true, false, List, [], ◌∷◌, ◌++◌, cond, length, get_or, drop, take, Option, Some, None, refl, sym, ap, subst, ◌∙◌, append_assoc, append-nil, arith}
+use Rattle.std.proofs.Common.{◌≡◌, ℕ, zero, suc, ◌+◌, ◌-◌, ◌<◌, ◌≤◌, Bool, true, false, List, [], ◌∷◌, ◌++◌, cond, length, get_or, drop, take, Option, Some, None, refl, sym, ap, subst, ◌∙◌, append_assoc, append-nil, arith}
 use Rattle.std.specs.Prelude.{MatchOption, count_by, nat_le, nat_lt, slice_get, option_to_list, ◌&&◌}
 use Rattle.std.specs.Option.{option_map, option_or}
 use Rattle.std.proofs.lemmas.Bool.{lt-ltb}
@@ -97,7 +97,7 @@ pub count_one : (p : PlainAvp → Bool) (n k i count total : ℕ) (avps : List H
     → b ≡ p (plain_held v) → b ≡ true → k ≡ padded_length (plain_held v) → (count + 1) + count_of p (n - k) (drop (i + 1) avps) ≡ total
 count_one p n k i count total avps v b so_far some within is counts passes size =
     let rest = begun_rest p n i avps v (omega (arith, some)) within is in
-    let one : cond (p (plain_held v)) 1 0 ≡ 1 = ap (λ (c : Bool). cond c 1 0) (sym counts ∙ passes) in
+    let one : cond (p (plain_held v)) (suc zero) zero ≡ suc zero = ap (λ (c : Bool). cond c (suc zero) zero) (sym counts ∙ passes) in
     let same : count_of p (n - k) (drop (i + 1) avps) ≡ count_of p (n - padded_length (plain_held v)) (drop (i + 1) avps) = ap (λ (j : ℕ). count_of p (n - j) (drop (i + 1) avps)) size in
     omega (arith, so_far, rest, one, same)
 
@@ -105,7 +105,7 @@ pub count_no : (p : PlainAvp → Bool) (n k i count total : ℕ) (avps : List He
     → b ≡ p (plain_held v) → b ≡ false → k ≡ padded_length (plain_held v) → count + count_of p (n - k) (drop (i + 1) avps) ≡ total
 count_no p n k i count total avps v b so_far some within is counts fails size =
     let rest = begun_rest p n i avps v (omega (arith, some)) within is in
-    let none : cond (p (plain_held v)) 1 0 ≡ 0 = ap (λ (c : Bool). cond c 1 0) (sym counts ∙ fails) in
+    let none : cond (p (plain_held v)) (suc zero) zero ≡ zero = ap (λ (c : Bool). cond c (suc zero) zero) (sym counts ∙ fails) in
     let same : count_of p (n - k) (drop (i + 1) avps) ≡ count_of p (n - padded_length (plain_held v)) (drop (i + 1) avps) = ap (λ (j : ℕ). count_of p (n - j) (drop (i + 1) avps)) size in
     omega (arith, so_far, rest, none, same)
 
@@ -166,14 +166,15 @@ entered_fits d n v x e = by (nat_lt 0 n && nat_le n (avp_length v)) (group_at d 
 inside_fits : (d : Dictionary) (n : ℕ) (avps : List PlainAvp) (b : List ℕ) (x : PlainInside) → SpellsAll avps b → entered_in d n avps ≡ Some x → avp_length x.group ≤ length b
 inside_fits d n [] b x h e = absurd cc
 inside_fits d n (v ∷ avps) b x (front, rest, s, parts, all) e =
-    by (entered d n v) refl e
+    by (entered d n v) refl e (λ h. inside_fits d (n - padded_length v) avps rest x all h)
   where
     size : length b ≡ length front + length rest
     size = ap length parts ∙ length-append front rest
 
-    by : (o : Option PlainInside) → entered d n v ≡ o → option_or o (entered_in d (n - padded_length v) avps) ≡ Some x → avp_length x.group ≤ length b
-    by None is h = let later = inside_fits d (n - padded_length v) avps rest x all h in omega (arith, later, size)
-    by (Some i) is h =
+    by : (o : Option PlainInside) → entered d n v ≡ o → option_or o (entered_in d (n - padded_length v) avps) ≡ Some x → (entered_in d (n - padded_length v) avps ≡ Some x → avp_length x.group ≤ length rest)
+        → avp_length x.group ≤ length b
+    by None is h ih = let later = ih h in omega (arith, later, size)
+    by (Some i) is h ih =
         let group : x.group ≡ v = ap (λ (j : PlainInside). j.group) (sym (same_Some i x h)) ∙ entered_fits d n v i is in
         let long : avp_length v ≤ length front = let o = opened v front [] s in omega (arith, o.front_length, rounded-le (avp_length v)) in
         let same : avp_length x.group ≡ avp_length v = ap avp_length group in
