@@ -31,21 +31,6 @@ made_is_valid d c made u most is_u is_most h =
     subst (λ (l : Levels). IsValid (opaque (form_dictionary made.form d)) u l made.bytes.items) is_most
     (subst (λ (x : Unknown). IsValid (opaque (form_dictionary made.form d)) x c.levels made.bytes.items) is_u h.written.valid)
 
--- a message of these AVPs, if it is valid
-pub written_by : {X E : Type 0} (items : X → List ℕ) (d : Dictionary) (f : Form) (rules : List DRule) (e : Extent) (c : Contents) (h : Header) (stock avps : List PlainAvp) (bytes : List ℕ) → IsStock d f rules (in_extent e (parts_of c)) stock
-    → IsListed f rules stock → avps ≡ in_order rules stock → h ≡ answer_header c.header f → MessageWithZeros h avps bytes
-    → (r : Result (Option X) E) → IfOk r (λ found. IfSome found (λ same. (items same ≡ bytes) × IsValid (opaque d) c.unknown c.levels bytes)) → IfOk r (λ found. IfSome found (λ b. IsWritten d f rules e c (items b)))
-written_by items d f rules e c h stock avps bytes is_stock listed order header message (Ok (Some b)) (same, valid) = record {
-  stock = stock;
-  is_stock = is_stock;
-  listed = listed;
-  message = subst (λ (x : List ℕ). MessageWithZeros (answer_header c.header f) (in_order rules stock) x) (sym same)
-      (subst (λ (k : Header). MessageWithZeros k (in_order rules stock) bytes) header (subst (λ (vs : List PlainAvp). MessageWithZeros h vs bytes) order message));
-  valid = subst (λ (x : List ℕ). IsValid (opaque d) c.unknown c.levels x) (sym same) valid;
-}
-written_by items d f rules e c h stock avps bytes is_stock listed order header message (Ok None) p = tt
-written_by items d f rules e c h stock avps bytes is_stock listed order header message (Err x) p = tt
-
 -- by the command that is selected
 pub answered_by : (d : Dictionary) (c : Contents) (f : Form) (e : Extent) (made : Made) (class : Class) (i : ℕ) (def : PlainDefinition) (rules : List DRule) → IsDictionary d → made.fault ≡ c.fault → made.form ≡ f → IsFormFor c.fault.code f
     → class ≡ form_class f → Some i ≡ selected d c.header.code class c.header.app → slice_get (definitions d) i ≡ Some def → rules ≡ def.rules → IsWritten d f rules e c made.bytes.items → IsAnswerBy d c made

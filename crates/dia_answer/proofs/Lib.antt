@@ -17,3 +17,5 @@ pub mod Building
 pub mod CerAnswers
 pub mod Ways
 pub mod Nests
+pub mod OneStock
+pub mod Attempts

@@ -1,9 +1,12 @@
 -- What an answer says of the fault, of the sender and of the request, by the AVPs that it is made of.
-use Rattle.std.proofs.Common.{◌≡◌, ℕ, None, ◌<◌, ◌^◌, List, inl, inr, refl, sym, ap, subst, ◌∙◌, arith}
-use Rattle.std.specs.Prelude.{string_bytes}
+use Rattle.std.proofs.Common.{◌≡◌, ℕ, Some, None, ◌<◌, ◌^◌, List, inl, inr, refl, sym, ap, subst, ◌∙◌, arith}
+use Rattle.std.specs.Prelude.{string_bytes, IfErr, IfOk, Result, Ok, Err}
+use Rattle.std.specs.declared.alloc.AllocError.{AllocError}
 use Rattle.std.specs.Option.{option_map}
 use Rattle.byteorder.specs.Endian.{big_bytes}
 use Rattle.dia_wire.specs.Number.{IsField}
+use Rattle.dia_wire.specs.declared.Header.{Header}
+use Rattle.dia_wire.specs.Wire.{HasR, IsMessage}
 use Rattle.dia_wire.proofs.Written.{four}
 use Rattle.dia_book.specs.Dictionary.{Dictionary}
 use Rattle.dia_terms.specs.declared.Unknown.{Unknown}
@@ -17,12 +20,14 @@ use Rattle.dia_run.specs.Texts.{line}
 use Rattle.dia_run.specs.Verdict.{fault_line}
 use Rattle.dia_answer.specs.declared.contents.Contents.{Contents}
 use Rattle.dia_answer.specs.declared.forms.Made.{Made}
+use Rattle.dia_answer.specs.declared.forms.NoAnswer.{NoAnswer}
+use Rattle.dia_answer.specs.declared.forms.NoAnswer.TheVariants as no_answer
 use Rattle.dia_answer.specs.Requests.{AreRequestAvps, IsOfHeader, IsRequestHead}
 use Rattle.dia_answer.specs.Stocks.{IsFitOf, own}
 use Rattle.dia_answer.specs.Bodies.{AreThose, IsSession, in_order, origin_host, origin_realm, proxy_info, result_code, session_id}
 use Rattle.dia_answer.specs.Helds.{plains}
 use Rattle.dia_answer.specs.Sources.{in_extent, parts_of}
-use Rattle.dia_answer.specs.Reports.{HasBody, HasCopies, HasOne, IsAnswerOf, answer_header, form_dictionary}
+use Rattle.dia_answer.specs.Reports.{AreParts, AreTried, HasBody, HasCopies, HasFirstForm, HasNoForm, HasOne, IsAnswerOf, IsByFirst, IsProcessed, answer_header, attempts_for, form_dictionary}
 use Rattle.dia_answer.proofs.Orders.{order_keeps}
 use Rattle.dia_answer.proofs.Stocks.{the_origin_host, the_origin_realm, the_proxies, the_result_code, the_session}
 
@@ -62,32 +67,56 @@ made_result_code d c made small h = let by = form_dictionary made.form d in reco
   held = the_code c made.fault.code (ap (λ (f : Fault). f.code) h.fault) (subst (λ (f : Fault). f.code < 2 ^ 32) (sym h.fault) small);
 }
 
-pub made_body : (d : Dictionary) (u : Unknown) (most : Levels) (host realm request : List ℕ) (c : Contents) (made : Made) → c.fault.code < 2 ^ 32 → IsRequestHead c.header request → c.unknown ≡ u → c.levels ≡ most
-    → c.names.host.now ≡ host → c.names.realm.now ≡ realm → AreRequestAvps c.fault.reason (plains c.request.items) request → line (string_bytes c.line) ≡ fault_line d c.fault
-    → (IsOfHeader c.fault.reason → option_map (λ f. f.items) c.failed ≡ None) → IsAnswerOf d c made → HasBody d u most host realm request made
-made_body d u most host realm request c made small head is_u is_most is_host is_realm reads is_line none h = record {
-  header = c.header;
-  reads = head;
-  command = h.command;
-  is_command = h.is_command;
-  parts = parts_of c;
-  are_parts = record {
+module _ (d : Dictionary) (u : Unknown) (most : Levels) (host realm request : List ℕ) (c : Contents) (small : c.fault.code < 2 ^ 32) (head : IsRequestHead c.header request) (is_u : c.unknown ≡ u) (is_most : c.levels ≡ most)
+    (is_host : c.names.host.now ≡ host) (is_realm : c.names.realm.now ≡ realm) (reads : AreRequestAvps c.fault.reason (plains c.request.items) request) (is_line : line (string_bytes c.line) ≡ fault_line d c.fault)
+    (none : IsOfHeader c.fault.reason → option_map (λ f. f.items) c.failed ≡ None) where
+  are_parts_of : (f : Fault) → f ≡ c.fault → AreParts d u most host realm request f (parts_of c)
+  are_parts_of f same = record {
     unknown = is_u;
     levels = is_most;
-    reads = subst (λ (f : Fault). AreRequestAvps f.reason (plains c.request.items) request) (sym h.fault) reads;
-    code = the_code c made.fault.code (ap (λ (f : Fault). f.code) h.fault) (subst (λ (f : Fault). f.code < 2 ^ 32) (sym h.fault) small);
+    reads = subst (λ (x : Fault). AreRequestAvps x.reason (plains c.request.items) request) (sym same) reads;
+    code = the_code c f.code (ap (λ (x : Fault). x.code) same) (subst (λ (x : Fault). x.code < 2 ^ 32) (sym same) small);
     is_host = is_host;
     is_realm = is_realm;
     text = string_bytes c.line;
     has_text = refl;
-    is_line = subst (λ (f : Fault). line (string_bytes c.line) ≡ fault_line d f) (sym h.fault) is_line;
-    none = λ of_header. none (subst (λ (f : Fault). IsOfHeader f.reason) h.fault of_header);
-  };
-  extent = h.extent;
-  avps = h.written.stock;
-  are_avps = h.written.is_stock;
-  message = h.written.message;
-}
+    is_line = subst (λ (x : Fault). line (string_bytes c.line) ≡ fault_line d x) (sym same) is_line;
+    none = λ of_header. none (subst (λ (x : Fault). IsOfHeader x.reason) same of_header);
+  }
+
+  pub made_body : (made : Made) → IsAnswerOf d c made → HasBody d u most host realm request made
+  made_body made h = record {
+    header = c.header;
+    reads = head;
+    command = h.command;
+    is_command = h.is_command;
+    parts = parts_of c;
+    are_parts = are_parts_of made.fault h.fault;
+    extent = h.extent;
+    avps = h.written.stock;
+    are_avps = h.written.is_stock;
+    message = h.written.message;
+  }
+
+  pub made_first : (made : Made) → AreTried d c (attempts_for c.fault.code) (Some made) → HasFirstForm d u most host realm request made
+  made_first made h = record {
+    header = c.header;
+    reads = head;
+    parts = parts_of c;
+    are_parts = are_parts_of made.fault h.0;
+    first = subst (λ (f : Fault). IsByFirst d c.header (parts_of c) (attempts_for f.code) made.form made.bytes.items) (sym h.0) h.1;
+  }
+
+  pub none_made : IsRecorded d u most request c.fault → AreTried d c (attempts_for c.fault.code) None → HasNoForm d u most host realm request
+  none_made recorded h = record {
+    header = c.header;
+    reads = head;
+    fault = c.fault;
+    recorded = recorded;
+    parts = parts_of c;
+    are_parts = are_parts_of c.fault refl;
+    none = h;
+  }
 
 pub made_origin_host : (d : Dictionary) (c : Contents) (made : Made) (host : List ℕ) → c.names.host.now ≡ host → IsAnswerOf d c made → HasOne origin_host (λ b. b ≡ host) made.bytes.items
 made_origin_host d c made host is h = let by = form_dictionary made.form d in record {
@@ -128,3 +157,19 @@ made_copies d u most request c made is_u is_most reads h =
       are_proxies = subst (λ (l : Levels). AreThose (IsFitOf by u l proxy_info) found h.written.is_stock.proxies) is_most (subst (λ (x : Unknown). AreThose (IsFitOf by x c.levels proxy_info) found h.written.is_stock.proxies) is_u proxies);
       copies = order_keeps proxy_info rules stock h.are_rules ∙ the_proxies by made.form rules (in_extent h.extent (parts_of c)) stock h.written.is_stock;
     }
+
+pub made_processed : (d : Dictionary) (c : Contents) (made : Made) (request : List ℕ) (header : Header) → c.header ≡ header → IsRequestHead header request → HasR header.flags → IsAnswerOf d c made
+    → IsProcessed request made.fault.code made.form made.bytes.items
+made_processed d c made request header same reads is_request h = record {
+  header = header;
+  reads = reads;
+  is_request = is_request;
+  avps = in_order h.command.rules h.written.stock;
+  message = subst (λ (k : Header). IsMessage (answer_header k made.form) (in_order h.command.rules h.written.stock) made.bytes.items) same h.written.message.message;
+}
+
+-- what is said where each form is too long
+pub on_too_long : {A : Type 0} (r : Result (Result Made NoAnswer) AllocError) → IfOk r (λ found. IfErr found (λ why. (why ≡ no_answer.TooLong) × A)) → r ≡ Ok (Err no_answer.TooLong) → A
+on_too_long (Ok (Ok made)) h e = absurd cc
+on_too_long (Ok (Err why)) h e = h.1
+on_too_long (Err x) h e = absurd cc

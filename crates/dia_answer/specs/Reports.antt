@@ -1,10 +1,10 @@
 -- The answer to a request that reports its first fault (RFC 6733 sections 6.2, 7.1.5 and 7.2).
-use Rattle.std.specs.Prelude.{◌≡◌, ℕ, ◌/◌, ◌<◌, bit_and, bit_or, true, List, [], ◌∷◌, length, map, IfOk, Some, None, Result, codes, Err, slice_get, ⊤}
-use Rattle.std.specs.List.{list_all}
+use Rattle.std.specs.Prelude.{◌≡◌, ℕ, ◌/◌, ◌<◌, ◌==◌, ◌⊎◌, bit_and, bit_or, true, if◌then◌else◌, List, [], ◌∷◌, ◌++◌, length, map, IfOk, Option, Some, None, Result, codes, Err, slice_get, ⊤}
+use Rattle.std.specs.List.{list_all, AllByRecursion}
 use Rattle.dia_wire.specs.declared.Key.{Key}
 use Rattle.dia_wire.specs.declared.Header.{Header}
 use Rattle.dia_wire.specs.Number.{IsField}
-use Rattle.dia_wire.specs.Wire.{PlainAvp, HasR, IsMessage, MessageWithZeros}
+use Rattle.dia_wire.specs.Wire.{PlainAvp, HasR, IsMessage, IsTooLong, MessageWithZeros}
 use Rattle.dia_book.specs.declared.Class.{Class}
 use Rattle.dia_book.specs.declared.Class.TheVariants.{Answer, Error}
 use Rattle.dia_book.specs.declared.DRule.{DRule}
@@ -25,6 +25,7 @@ use Rattle.std.specs.declared.alloc.AllocError.{AllocError}
 use Rattle.dia_answer.specs.declared.forms.Made.{Made}
 use Rattle.dia_answer.specs.declared.contents.Contents.{Contents}
 use Rattle.dia_answer.specs.declared.contents.Extent.{Extent}
+use Rattle.dia_answer.specs.declared.contents.Extent.TheVariants as extent
 use Rattle.dia_answer.specs.declared.forms.NoAnswer.{NoAnswer}
 use Rattle.dia_answer.specs.declared.forms.NoAnswer.TheVariants as no_answer
 use Rattle.dia_answer.specs.Dictionaries.{opaque}
@@ -123,6 +124,70 @@ pub record HasBody (d : Dictionary) (u : Unknown) (most : Levels) (host realm re
   pub are_avps : IsStock (form_dictionary made.form d) made.form command.rules (in_extent extent parts) avps
   pub message : MessageWithZeros (answer_header header made.form) (in_order command.rules avps) made.bytes.items
 
+-- ---- which form
+
+-- in the command's own answer each AVP but Error-Message is listed by a rule
+abbrev pub IsListed : Form → List DRule → List PlainAvp → Type 0
+IsListed form.Own rules avps = list_all (may_be_unlisted rules) avps ≡ true
+IsListed f rules avps = ⊤
+
+-- the answer of a form that is made of these parts
+pub record IsOfForm (d : Dictionary) (h : Header) (f : Form) (p : Parts) (bytes : List ℕ) : Type 0 where
+  pub command : PlainDefinition
+  pub is_command : IsCommandOf d h f command
+  pub avps : List PlainAvp
+  pub are_avps : IsStock d f command.rules p avps
+  pub listed : IsListed f command.rules avps
+  pub room : ¬ IsTooLong (in_order command.rules avps)
+  pub message : MessageWithZeros (answer_header h f) (in_order command.rules avps) bytes
+  pub valid : IsValid (opaque d) p.unknown p.levels bytes
+
+-- a form, with Error-Message and Failed-AVP or without them
+pub record Attempt : Type 0 where
+  pub form : Form
+  pub extent : Extent
+
+abbrev pub IsBy : Dictionary → Header → Parts → Attempt → List ℕ → Type 0
+IsBy d h p a bytes = IsOfForm (form_dictionary a.form d) h a.form (in_extent a.extent p) bytes
+
+-- there is no such answer
+abbrev pub HasNoneBy : Dictionary → Header → Parts → Attempt → Type 0
+HasNoneBy d h p a = (bytes : List ℕ) → ¬ IsBy d h p a bytes
+
+-- the forms, in the order in which they are tried; the command's own answer for permanent failures alone
+abbrev pub forms_for : ℕ → List Form
+forms_for code = if code / 1000 == 5 then form.Own ∷ form.Error ∷ form.Base ∷ [] else form.Error ∷ form.Base ∷ []
+
+abbrev pub attempts_in : Extent → List Form → List Attempt
+attempts_in e forms = map (λ f. record { form = f; extent = e }) forms
+
+-- all with Error-Message and Failed-AVP, and then all without them
+abbrev pub attempts_for : ℕ → List Attempt
+attempts_for code = attempts_in extent.Full (forms_for code) ++ attempts_in extent.Bare (forms_for code)
+
+-- the bytes are by the first attempt by which there is an answer
+abbrev pub IsByFirst : Dictionary → Header → Parts → List Attempt → Form → List ℕ → Type 0
+IsByFirst d h p [] f bytes = ⊥
+IsByFirst d h p (a ∷ attempts) f bytes = ((f ≡ a.form) × IsBy d h p a bytes) ⊎ (HasNoneBy d h p a × IsByFirst d h p attempts f bytes)
+
+-- the answer is of the first form of which there is one
+pub record HasFirstForm (d : Dictionary) (u : Unknown) (most : Levels) (host realm request : List ℕ) (made : Made) : Type 0 where
+  pub header : Header
+  pub reads : IsRequestHead header request
+  pub parts : Parts
+  pub are_parts : AreParts d u most host realm request made.fault parts
+  pub first : IsByFirst d header parts (attempts_for made.fault.code) made.form made.bytes.items
+
+-- there is no answer of any form
+pub record HasNoForm (d : Dictionary) (u : Unknown) (most : Levels) (host realm request : List ℕ) : Type 0 where
+  pub header : Header
+  pub reads : IsRequestHead header request
+  pub fault : Fault
+  pub recorded : IsRecorded d u most request fault
+  pub parts : Parts
+  pub are_parts : AreParts d u most host realm request fault parts
+  pub none : AllByRecursion (HasNoneBy d header parts) (attempts_for fault.code)
+
 -- the R flag is set
 abbrev pub IsRequest : List ℕ → Type 0
 IsRequest bytes = (h : Header) × IsRequestHead h bytes × HasR h.flags
@@ -151,16 +216,12 @@ OnMade P result = IfOk result (λ found. IfOk found P)
 
 -- ---- what the parts of the code answer
 
--- in the command's own answer each AVP but Error-Message is listed by a rule
-abbrev pub IsListed : Form → List DRule → List PlainAvp → Type 0
-IsListed form.Own rules avps = list_all (may_be_unlisted rules) avps ≡ true
-IsListed f rules avps = ⊤
-
 -- the message by these rules, and valid
 pub record IsWritten (d : Dictionary) (f : Form) (rules : List DRule) (e : Extent) (c : Contents) (bytes : List ℕ) : Type 0 where
   pub stock : List PlainAvp
   pub is_stock : IsStock d f rules (in_extent e (parts_of c)) stock
   pub listed : IsListed f rules stock
+  pub room : ¬ IsTooLong (in_order rules stock)
   pub message : MessageWithZeros (answer_header c.header f) (in_order rules stock) bytes
   pub valid : IsValid (opaque d) c.unknown c.levels bytes
 
@@ -176,3 +237,13 @@ pub record IsAnswerBy (d : Dictionary) (c : Contents) (made : Made) : Type 0 whe
 -- the answer of one of the forms, by the dictionary or the base dictionary
 abbrev pub IsAnswerOf : Dictionary → Contents → Made → Type 0
 IsAnswerOf d c made = IsAnswerBy (form_dictionary made.form d) c made
+
+-- whether there is an answer of a form
+abbrev pub IsTried : Dictionary → Contents → Form → Extent → Option Made → Type 0
+IsTried d c f e None = (bytes : List ℕ) → ¬ IsOfForm d c.header f (in_extent e (parts_of c)) bytes
+IsTried d c f e (Some made) = (made.fault ≡ c.fault) × (made.form ≡ f) × IsOfForm d c.header f (in_extent e (parts_of c)) made.bytes.items
+
+-- the first answer by one of these attempts
+abbrev pub AreTried : Dictionary → Contents → List Attempt → Option Made → Type 0
+AreTried d c attempts None = AllByRecursion (HasNoneBy d c.header (parts_of c)) attempts
+AreTried d c attempts (Some made) = (made.fault ≡ c.fault) × IsByFirst d c.header (parts_of c) attempts made.form made.bytes.items

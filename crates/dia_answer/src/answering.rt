@@ -1,14 +1,18 @@
 //! Answers to requests.
 
-ghost use Rattle.std.specs.Prelude.{◌≡◌, ◌≢◌, ◌++◌, ◌<◌, ◌≤◌, ◌/◌, ◌↔◌, Err, IfErr, IfOk, IfSome, IsTrue, Ok, length, map, slice_index};
+ghost use Rattle.std.specs.Prelude.{◌≡◌, ◌≢◌, ◌++◌, ◌<◌, ◌≤◌, ◌/◌, ◌↔◌, Err, IfErr, IfOk, IfSome, IsTrue, List, MatchOption, None, Ok, Some, length, map, slice_index, ℕ};
 ghost use Rattle.dia_wire.specs.Lengths.{three_bytes};
-ghost use Rattle.dia_wire.specs.Wire.{plain_avp, HasR, MessageWithZeros};
+ghost use Rattle.dia_wire.specs.Wire.{plain_avp, HasR, IsTooLong, MessageWithZeros};
 ghost use Rattle.dia_valid.specs.Valid.{IsValid};
 ghost use Rattle.dia_check.specs.Faults.{IsRecorded};
+ghost use Rattle.dia_dict.specs.Base.{base};
 ghost use Rattle.dia_answer.specs.Dictionaries.{opaque};
 ghost use Rattle.dia_answer.specs.Reports.{
+  AreTried,
   HasBody,
   HasCopies,
+  HasFirstForm,
+  HasNoForm,
   HasOne,
   IsAnswerBy,
   IsAnswerOf,
@@ -16,12 +20,16 @@ ghost use Rattle.dia_answer.specs.Reports.{
   IsListed,
   IsNoAnswer,
   IsProcessed,
+  IsTried,
   IsValidBy,
   IsWritten,
   OnMade,
   answer_header,
+  attempts_for,
+  attempts_in,
   form_class,
   form_dictionary,
+  forms_for,
 };
 ghost use Rattle.dia_wire.specs.Number.{IsField};
 ghost use Rattle.dia_answer.specs.Bodies.{AllOf, origin_host, origin_realm, proxy_info, result_code};
@@ -69,6 +77,10 @@ pub fn answer<B: Book>(
     ensures copies { OnMade (λ made. HasCopies (form_dictionary made.form (B.meaning book.now))
         unknown levels made.fault.reason bytes.now made.bytes.items) result }
     ensures body { OnMade (HasBody (B.meaning book.now) unknown levels names.now.host.now names.now.realm.now bytes.now) result }
+    ensures first { OnMade (HasFirstForm (B.meaning book.now) unknown levels
+        names.now.host.now names.now.realm.now bytes.now) result }
+    ensures too_long { result ≡ Ok (Err NoAnswer.TooLong) → HasNoForm (B.meaning book.now) unknown levels
+        names.now.host.now names.now.realm.now bytes.now }
     ensures short { (result ≡ Ok (Err NoAnswer.Short)) ↔ (length bytes.now < 20) }
     ensures answer { (result ≡ Ok (Err NoAnswer.Answer))
         ↔ ((20 ≤ length bytes.now) × (¬ HasR (slice_index bytes.now 4))) }
@@ -102,38 +114,49 @@ pub fn answer<B: Book>(
 /// The first answer of the forms that is valid: with Failed-AVP and Error-Message, and else without them.
 fn report<B: Book>(book: &B, contents: &Contents<'_>) -> Result<Result<Made, NoAnswer>, AllocError>
     ensures made { OnMade (IsAnswerOf (B.meaning book.now) contents.now) result }
-    ensures none { IfOk result (λ found. IfErr found (λ why. why ≡ NoAnswer.TooLong)) }
+    ensures first { OnMade (λ made. AreTried (B.meaning book.now) contents.now
+        (attempts_for contents.now.fault.code) (Some made)) result }
+    ensures none { IfOk result (λ found. IfErr found (λ why. (why ≡ NoAnswer.TooLong)
+        × AreTried (B.meaning book.now) contents.now (attempts_for contents.now.fault.code) None)) }
 {
-    if let Some(made) = by_dictionary(book, contents, Extent::Full)? {
+    if let Some(made) = by_forms(book, contents, Extent::Full)? {
         return Ok(Ok(made));
     }
-    let base = base_book(contents.alloc)?;
-    if let Some(made) = by_command(&base, contents, Extent::Full, Form::Base)? {
-        return Ok(Ok(made));
-    }
-    if let Some(made) = by_dictionary(book, contents, Extent::Bare)? {
-        return Ok(Ok(made));
-    }
-    match by_command(&base, contents, Extent::Bare, Form::Base)? {
+    match by_forms(book, contents, Extent::Bare)? {
         Some(made) => Ok(Ok(made)),
         None => Ok(Err(NoAnswer::TooLong)),
     }
 }
 
-/// The first valid answer of the two forms that are of the dictionary.
-fn by_dictionary<B: Book>(
+/// The first valid answer of the forms.
+fn by_forms<B: Book>(
     book: &B,
     contents: &Contents<'_>,
     extent: Extent,
 ) -> Result<Option<Made>, AllocError>
-    ensures { IfOk result (λ found. IfSome found (IsAnswerOf (B.meaning book.now) contents.now)) }
+    ensures made { IfOk result (λ found. IfSome found (IsAnswerOf (B.meaning book.now) contents.now)) }
+    ensures tried { IfOk result (AreTried (B.meaning book.now) contents.now
+        (attempts_in extent (forms_for contents.now.fault.code))) }
 {
     if is_permanent(contents.fault.code) {
         if let Some(made) = by_command(book, contents, extent, Form::Own)? {
             return Ok(Some(made));
         }
     }
-    by_command(book, contents, extent, Form::Error)
+    if let Some(made) = by_command(book, contents, extent, Form::Error)? {
+        return Ok(Some(made));
+    }
+    by_base(contents, extent)
+}
+
+/// The answer by the base dictionary, if it is valid.
+fn by_base(contents: &Contents<'_>, extent: Extent) -> Result<Option<Made>, AllocError>
+    ensures made { IfOk result (λ found. IfSome found
+        (λ made. IsAnswerBy base contents.now made × (made.form ≡ Form.Base))) }
+    ensures tried { IfOk result (IsTried base contents.now Form.Base extent) }
+{
+    let book = base_book(contents.alloc)?;
+    by_command(&book, contents, extent, Form::Base)
 }
 
 /// Whether the code is one of a permanent failure (RFC 6733 section 7.1.5).
@@ -151,8 +174,9 @@ fn by_command<B: Book>(
     form: Form,
 ) -> Result<Option<Made>, AllocError>
     requires { IsFormFor contents.now.fault.code form }
-    ensures { IfOk result (λ found. IfSome found
+    ensures made { IfOk result (λ found. IfSome found
         (λ made. IsAnswerBy (B.meaning book.now) contents.now made × (made.form ≡ form))) }
+    ensures tried { IfOk result (IsTried (B.meaning book.now) contents.now form extent) }
 {
     let header = &contents.header;
     let Some(def) = book.select(header.code, class_of(form), header.app) else {
@@ -184,8 +208,9 @@ fn by_rules<B: Book>(
     extent: Extent,
 ) -> Result<Option<Vec<u8>>, AllocError>
     requires { 0 < length (B.meaning book.now).commands }
-    ensures { IfOk result (λ found. IfSome found (λ bytes.
-        IsWritten (B.meaning book.now) form rules.now extent contents.now bytes.items)) }
+    ensures { IfOk result (λ found. MatchOption found
+        ((bytes : List ℕ) → ¬ IsWritten (B.meaning book.now) form rules.now extent contents.now bytes)
+        (λ bytes. IsWritten (B.meaning book.now) form rules.now extent contents.now bytes.items)) }
 {
     let stock = Stock::new(book, form, rules, contents, extent)?;
     if !may_be_taken(form, rules, &stock) {
@@ -230,8 +255,8 @@ fn header_for(request: &Header, form: Form) -> Header
 /// The message of these AVPs; none where it would be too long.
 fn written(alloc: Global, header: &Header, held: &[Held<'_>]) -> Result<Option<Vec<u8>>, AllocError>
     requires fits { header.now.code < three_bytes }
-    ensures { IfOk result (λ found. IfSome found (λ bytes.
-        MessageWithZeros header.now (map (λ h. plain_avp h.avp) held.now) bytes.items)) }
+    ensures { IfOk result (λ found. MatchOption found (IsTooLong (plains held.now))
+        (λ bytes. (¬ IsTooLong (plains held.now)) × MessageWithZeros header.now (plains held.now) bytes.items)) }
 {
     let avps = held::written(alloc, held)?;
     let mut bytes = Vec::new(alloc);
@@ -248,7 +273,9 @@ fn if_valid<B: Book>(
     contents: &Contents<'_>,
     bytes: Vec<u8>,
 ) -> Result<Option<Vec<u8>>, AllocError>
-    ensures { IfOk result (λ found. IfSome found (λ same. (same.items ≡ bytes.items)
+    ensures { IfOk result (λ found. MatchOption found
+        (¬ IsValid (opaque (B.meaning book.now)) contents.now.unknown contents.now.levels bytes.items)
+        (λ same. (same.items ≡ bytes.items)
         × IsValid (opaque (B.meaning book.now)) contents.now.unknown contents.now.levels bytes.items)) }
 {
     let opaque = Opaque::new(book);
