@@ -17,3 +17,9 @@ pub mod Building
 pub mod CerAnswers
 pub mod OneStock
 pub mod Attempts
+pub mod Strict
+pub mod StrictAnswers
+pub mod SpelledAnswers
+pub mod ErrorFits
+pub mod ErrorLevels
+pub mod OwnErrors

@@ -19,7 +19,7 @@ use Rattle.dia_answer.specs.Bodies.{AllOf, in_order, of_key, proxy_info}
 use Rattle.dia_answer.specs.Helds.{plain_held, plains}
 
 -- a filter of a filter, whose test is the same of each that passes the other
-filter_by : {X : Type 0} (p q : X → Bool) (b : Bool) (xs : List X) → ((x : X) → p x ≡ true → q x ≡ b) → filter p (filter q xs) ≡ cond b (filter p xs) []
+pub filter_by : {X : Type 0} (p q : X → Bool) (b : Bool) (xs : List X) → ((x : X) → p x ≡ true → q x ≡ b) → filter p (filter q xs) ≡ cond b (filter p xs) []
 filter_by p q true [] h = refl
 filter_by p q false [] h = refl
 filter_by {X} p q b (x ∷ xs) h = by (p x) (q x) b refl refl (h x) (filter_by p q b xs h)
@@ -50,7 +50,7 @@ AreApart rules = (i j : ℕ) (a b : DRule) → slice_get rules i ≡ Some a → 
 apart_tail : (rule : DRule) (rules : List DRule) → AreApart (rule ∷ rules) → AreApart rules
 apart_tail rule rules apart i j a b at at' same = let e = apart (suc i) (suc j) a b at at' same in omega (arith, e)
 
-lists-key : (key : Key) (rule : DRule) → lists_key key rule ≡ true → rule.key ≡ Some key
+pub lists-key : (key : Key) (rule : DRule) → lists_key key rule ≡ true → rule.key ≡ Some key
 lists-key key rule h = by rule.key h
   where
     by : (o : Option Key) → option_map_or (same_key key) o false ≡ true → o ≡ Some key

@@ -3,6 +3,7 @@ use Rattle.std.proofs.Common.{◌≡◌, ℕ, Some, None, ◌<◌, ◌^◌, List
 use Rattle.std.specs.Prelude.{string_bytes, IfErr, IfOk, Result, Ok, Err}
 use Rattle.std.specs.declared.alloc.AllocError.{AllocError}
 use Rattle.std.specs.Option.{option_map}
+use Rattle.std.proofs.lemmas.Str.{IsUtf8-string_bytes}
 use Rattle.byteorder.specs.Endian.{big_bytes}
 use Rattle.dia_wire.specs.Number.{IsField}
 use Rattle.dia_wire.specs.declared.Header.{Header}
@@ -81,6 +82,7 @@ module _ (d : Dictionary) (u : Unknown) (most : Levels) (host realm request : Li
     text = string_bytes c.line;
     has_text = refl;
     is_line = subst (λ (x : Fault). line (string_bytes c.line) ≡ fault_line d x) (sym same) is_line;
+    is_utf8 = IsUtf8-string_bytes c.line;
     none = λ of_header. none (subst (λ (x : Fault). IsOfHeader x.reason) same of_header);
   }
 

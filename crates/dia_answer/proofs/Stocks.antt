@@ -38,7 +38,7 @@ all_of d u most key (v ∷ avps) these (inl (others, fit, parts, rest)) =
 all_of d u most key (v ∷ avps) these (inr (other, rest)) = all_of d u most key avps these rest
 
 -- another key than that of them all
-none_of : (k key : Key) (avps : List PlainAvp) → AllOf key avps → same_key k key ≡ false → of_key k avps ≡ []
+pub none_of : (k key : Key) (avps : List PlainAvp) → AllOf key avps → same_key k key ≡ false → of_key k avps ≡ []
 none_of k key avps all other = of_rule key (same_key k) avps all ∙ ap (λ (b : Bool). cond b avps []) other
 
 -- ---- copies
@@ -70,7 +70,7 @@ of_all d u most request (rule ∷ rules) these k own_key (first, others, parts, 
     ap (λ (vs : List PlainAvp). of_key k (map copied vs)) parts ∙ ap (of_key k) (map-append copied first others) ∙ filter-append (λ v. same_key k (key_of v)) (map copied first) (map copied others)
     ∙ ap (λ (vs : List PlainAvp). vs ++ of_key k (map copied others)) (of_required d u most request rule first k own_key here) ∙ of_all d u most request rules others k own_key later
 
-of_copies : (d : Dictionary) (u : Unknown) (most : Levels) (request : List PlainAvp) (f : Form) (rules : List DRule) (these : List PlainAvp) (k : Key) → is_own k ≡ true → AreCopies d u most request f rules these → of_key k (map copied these) ≡ []
+pub of_copies : (d : Dictionary) (u : Unknown) (most : Levels) (request : List PlainAvp) (f : Form) (rules : List DRule) (these : List PlainAvp) (k : Key) → is_own k ≡ true → AreCopies d u most request f rules these → of_key k (map copied these) ≡ []
 of_copies d u most request form.Own rules these k own_key h = of_all d u most request rules these k own_key h
 of_copies d u most request form.Error rules these k own_key h = of_none k these h
 of_copies d u most request form.Base rules these k own_key h = of_none k these h
@@ -81,15 +81,15 @@ one_or_none : (k : Key) (b : Bool) (v : PlainAvp) → same_key k (key_of v) ≡ 
 one_or_none k true v other = ap (λ (c : Bool). cond c (v ∷ []) []) other
 one_or_none k false v other = refl
 
-of_messages : (d : Dictionary) (rules : List DRule) (line : Option (List ℕ)) (k : Key) → same_key k error_message ≡ false → of_key k (error_messages d rules line) ≡ []
+pub of_messages : (d : Dictionary) (rules : List DRule) (line : Option (List ℕ)) (k : Key) → same_key k error_message ≡ false → of_key k (error_messages d rules line) ≡ []
 of_messages d rules None k other = refl
 of_messages d rules (Some line) k other = one_or_none k (has_format is_text d error_message && may_hold rules error_message) (record { code = 281; flags = 0; vendor = None; bytes = line }) other
 
-of_failed : (d : Dictionary) (f : Form) (rules : List DRule) (failed : Option (List ℕ)) (k : Key) → same_key k failed_avp ≡ false → of_key k (failed_avps d f rules failed) ≡ []
+pub of_failed : (d : Dictionary) (f : Form) (rules : List DRule) (failed : Option (List ℕ)) (k : Key) → same_key k failed_avp ≡ false → of_key k (failed_avps d f rules failed) ≡ []
 of_failed d f rules None k other = refl
 of_failed d f rules (Some bytes) k other = one_or_none k (has_format is_nest d failed_avp && may_fail f rules) (own d 279 bytes) other
 
-of_session : (d : Dictionary) (request these : List PlainAvp) (k : Key) → IsSession d request these → of_key k these ≡ cond (same_key k session_id) these []
+pub of_session : (d : Dictionary) (request these : List PlainAvp) (k : Key) → IsSession d request these → of_key k these ≡ cond (same_key k session_id) these []
 of_session d request these k h = by (find (λ v. same_key (key_of v) session_id) request) h
   where
     no_avp : (b : Bool) → these ≡ [] → of_key k these ≡ cond b these []

@@ -8,3 +8,5 @@ pub mod Sources
 pub mod Reports
 pub mod Names
 pub mod Outcome
+pub mod Strict
+pub mod OwnErrors

@@ -1,6 +1,7 @@
 -- The answer to a request that reports its first fault (RFC 6733 sections 6.2, 7.1.5 and 7.2).
 use Rattle.std.specs.Prelude.{◌≡◌, ℕ, ◌/◌, ◌<◌, ◌==◌, ◌⊎◌, bit_and, bit_or, true, if◌then◌else◌, List, [], ◌∷◌, ◌++◌, length, map, IfOk, Option, Some, None, Result, codes, Err, slice_get, ⊤}
 use Rattle.std.specs.List.{list_all, AllByRecursion}
+use Rattle.std.specs.Str.{IsUtf8}
 use Rattle.dia_wire.specs.declared.Key.{Key}
 use Rattle.dia_wire.specs.declared.Header.{Header}
 use Rattle.dia_wire.specs.Number.{IsField}
@@ -106,6 +107,7 @@ pub record AreParts (d : Dictionary) (u : Unknown) (most : Levels) (host realm r
   pub text : List ℕ
   pub has_text : p.line ≡ Some text
   pub is_line : line text ≡ fault_line d fault
+  pub is_utf8 : IsUtf8 text
   -- section 7.5: it holds AVPs, so a fault of the header has none
   pub none : IsOfHeader fault.reason → p.failed ≡ None
 
