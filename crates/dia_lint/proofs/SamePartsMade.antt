@@ -17,7 +17,7 @@ use Rattle.dia_lint.specs.Guidelines.{lets_in}
 use Rattle.dia_lint.specs.LevelParts.{MayFollow, Meets, Parts, is_other}
 use Rattle.dia_lint.proofs.SoundRules.{differ}
 use Rattle.dia_lint.proofs.SamePartsSpelled.{in_replicate, in_spelled, not_listed, runs_spelled, spelled, spelled_append, times_none, times_spelled}
-use Rattle.dia_lint.proofs.SamePartsMet.{AreParts, any_not_first, count_at, cut_at, one_rule, other_is, rules_of}
+use Rattle.dia_lint.proofs.SamePartsMet.{AreParts, any_not_first, count_at, count_of, cut_at, one_if, one_rule, other_is, rules_of}
 
 pub unlisted_left : (xs ys : List DRule) (k : Key) → is_listed (xs ++ ys) k ≡ false → is_listed xs k ≡ false
 unlisted_left xs ys k fails = false_from_ne_true (is_listed xs k) (λ h.
@@ -49,7 +49,6 @@ module _ (p : Parts) (n : AreParts p) where
     where
       same_count : (g : Key → Bool) (v : List Key) → g x ≡ g y → count_by g (v ++ x ∷ t) ≡ count_by g (v ++ y ∷ t)
       same_count g v e =
-          let one_if : Bool → ℕ = λ b. cond b 1 0 in
           let one = ap one_if e in
           omega (arith, count_at g v x t, count_at g v y t, one)
 
@@ -152,8 +151,7 @@ module _ (p : Parts) (n : AreParts p) (c : DRule → ℕ) (j : ℕ) (z : Key) (n
     counted r i =
         let there = in_right p.firsts p.anys r i in
         let (k, e) = some_of r.key (n.keyed r there) in
-        let list : count_by (λ key. lists_key key r) (spelled c p.anys ++ replicate j z) ≡ times k (spelled c p.anys ++ replicate j z)
-        = ap (λ (o : Option Key). count_by (λ key. option_map_or (same_key key) o false) (spelled c p.anys ++ replicate j z)) e in
+        let list = count_of r k (spelled c p.anys ++ replicate j z) e in
         let whole = word_times r k there e in
         let both = ap (times k) (spelled_append c p.firsts p.anys) in
         let none = times_none c p.firsts k (λ t it et. not_listed p.firsts k t (any_not_first p n r k i e) it et) in
@@ -168,22 +166,24 @@ module _ (p : Parts) (n : AreParts p) (c : DRule → ℕ) (j : ℕ) (z : Key) (n
         ) in
         subst (InBounds r) (same ∙ sym list) (within r there)
 
+    parted : spelled c p.firsts ++ (spelled c p.anys ++ replicate j z) ≡ word p c j z
+    parted = sym (append_assoc (spelled c p.firsts) (spelled c p.anys) (replicate j z)) ∙ ap (λ (l : List Key). l ++ replicate j z) (sym (spelled_append c p.firsts p.anys))
+
+    others : count_by (is_other p) (spelled c p.anys ++ replicate j z) ≡ j
+    others = omega (arith, count_append (is_other p) (spelled c p.anys) (replicate j z), none_other p.anys (λ r i. in_right p.firsts p.anys r i), copies_other)
+
+    runs : Runs p.firsts (spelled c p.firsts ++ (spelled c p.anys ++ replicate j z)) (spelled c p.anys ++ replicate j z)
+    runs = runs_spelled c p.firsts (spelled c p.anys ++ replicate j z) (λ r i. let there = in_left p.firsts p.anys r i in (n.keyed r there, within r there))
+
     pub made : Meets p (word p c j z)
-    made =
-        let parted : spelled c p.firsts ++ (spelled c p.anys ++ replicate j z) ≡ word p c j z
-        = sym (append_assoc (spelled c p.firsts) (spelled c p.anys) (replicate j z)) ∙ ap (λ (l : List Key). l ++ replicate j z) (sym (spelled_append c p.firsts p.anys)) in
-        record {
-          rest = spelled c p.anys ++ replicate j z;
-          runs = subst (λ (l : List Key). Runs p.firsts l (spelled c p.anys ++ replicate j z)) parted (runs_spelled c p.firsts (spelled c p.anys ++ replicate j z) (λ r i.
-              let there = in_left p.firsts p.anys r i in (n.keyed r there, within r there)));
-          follow = all_in (MayFollow p) (spelled c p.anys ++ replicate j z) (λ key i. follows key (in_append (spelled c p.anys) (replicate j z) key i));
-          counts = all_in (λ (r : DRule). InBounds r (count_by (λ key. lists_key key r) (spelled c p.anys ++ replicate j z))) p.anys counted;
-          others = when_some (λ (w : DRule). InBounds w (count_by (is_other p) (spelled c p.anys ++ replicate j z))) p.others (λ w of.
-              let none = none_other p.anys (λ r i. in_right p.firsts p.anys r i) in
-              let same : j ≡ count_by (is_other p) (spelled c p.anys ++ replicate j z)
-              = omega (arith, count_append (is_other p) (spelled c p.anys) (replicate j z), none, copies_other) in
-              subst (InBounds w) same (may.1 w of));
-        }
+    made = record {
+      rest = spelled c p.anys ++ replicate j z;
+      runs = subst (λ (l : List Key). Runs p.firsts l (spelled c p.anys ++ replicate j z)) parted runs;
+      follow = all_in (MayFollow p) (spelled c p.anys ++ replicate j z) (λ key i. follows key (in_append (spelled c p.anys) (replicate j z) key i));
+      counts = all_in (λ (r : DRule). InBounds r (count_by (λ key. lists_key key r) (spelled c p.anys ++ replicate j z))) p.anys counted;
+      others = when_some (λ (w : DRule). InBounds w (count_by (is_other p) (spelled c p.anys ++ replicate j z))) p.others (λ w of.
+          subst (InBounds w) (sym others) (may.1 w of));
+    }
 
 -- as many as usual of all but one key
 pub allowed : (p : Parts) (n : AreParts p) (k : Key) (often : ℕ) (r : DRule) → IsIn r (rules_of p) → r.key ≡ Some k → InBounds r often

@@ -106,6 +106,10 @@ in_times key xs i =
     let whole = ap (times key) e in
     omega (arith, whole, count_at (λ (q : Key). same_key q key) u key t, one)
 
+-- a rule counts its key
+pub count_of : (s : DRule) (k : Key) (keys : List Key) → s.key ≡ Some k → count_by (λ key. lists_key key s) keys ≡ times k keys
+count_of s k keys e = ap (λ (o : Option Key). count_by (λ key. option_map_or (same_key key) o false) keys) e
+
 -- ---- after the first AVPs
 
 -- what the parts ask of the keys after the first
@@ -147,9 +151,6 @@ module _ (p : Parts) (n : AreParts p) where
 
   first_not_other : (q : Key) → is_listed p.firsts q ≡ true → is_other p q ≡ false
   first_not_other q h = ap (λ (b : Bool). not (b || is_listed p.anys q)) h
-
-  count_of : (s : DRule) (k : Key) (keys : List Key) → s.key ≡ Some k → count_by (λ key. lists_key key s) keys ≡ times k keys
-  count_of s k keys e = ap (λ (o : Option Key). count_by (λ key. option_map_or (same_key key) o false) keys) e
 
   module _ (keys : List Key) (m : Meets p keys) where
     pub rest_in : (key : Key) → IsIn key m.rest → is_listed p.firsts key ≡ false
