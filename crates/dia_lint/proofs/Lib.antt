@@ -17,6 +17,12 @@ pub mod Reported
 pub mod RulesThatSayNothing
 pub mod SameLevels
 pub mod SameMessages
+pub mod SameParts
+pub mod SamePartsFirsts
+pub mod SamePartsMade
+pub mod SamePartsMet
+pub mod SamePartsOfRules
+pub mod SamePartsSpelled
 pub mod SentLevels
 pub mod SoundRules
 pub mod TwiceFindings

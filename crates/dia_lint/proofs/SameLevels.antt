@@ -32,7 +32,7 @@ same_test : (a b : Bool) → (a ≡ true → b ≡ true) → (b ≡ true → a �
 same_test true b to from = sym (to refl)
 same_test false b to from = sym (false_from_ne_true b (λ h. differ false (from h) refl))
 
-same_listed : (xs ys : List DRule) (key : Key) → AreAmong xs ys → AreAmong ys xs → is_listed xs key ≡ is_listed ys key
+pub same_listed : (xs ys : List DRule) (key : Key) → AreAmong xs ys → AreAmong ys xs → is_listed xs key ≡ is_listed ys key
 same_listed xs ys key to from = same_test (is_listed xs key) (is_listed ys key) (listed_too xs ys key to) (listed_too ys xs key from)
 
 in_same : (r t : DRule) (n : ℕ) → bounds r ≡ bounds t → InBounds r n → InBounds t n
@@ -41,7 +41,7 @@ in_same r t n same within =
     let most : r.max ≡ t.max = ap (λ (b : ℕ × Option ℕ). b.1) same in
     (subst (λ (k : ℕ). k ≤ n) least within.0, subst (λ (o : Option ℕ). IfSome o (λ max. n ≤ max)) most within.1)
 
-same_count : (p q : Key → Bool) (xs : List Key) → ((key : Key) → p key ≡ q key) → count_by p xs ≡ count_by q xs
+pub same_count : (p q : Key → Bool) (xs : List Key) → ((key : Key) → p key ≡ q key) → count_by p xs ≡ count_by q xs
 same_count p q [] h = refl
 same_count p q (x ∷ xs) h =
     let one_if : Bool → ℕ = λ b. cond b 1 0 in
@@ -157,7 +157,7 @@ last_is_first gs l keys m =
       others = tt;
     }
 
-parted : (firsts : List DRule) → firsts ≡ take (length firsts - 1) firsts ++ drop (length firsts - 1) firsts
+pub parted : (firsts : List DRule) → firsts ≡ take (length firsts - 1) firsts ++ drop (length firsts - 1) firsts
 parted firsts = sym (take-append-drop (length firsts - 1) firsts)
 
 last_from : (xs : List DRule) (n : ℕ) → length xs ≡ suc n → (l : DRule) × (drop n xs ≡ l ∷ [])
@@ -165,7 +165,7 @@ last_from [] n e = absurd (omega (arith, e))
 last_from (x ∷ xs) zero e = (x, ap (λ (ys : List DRule). x ∷ ys) (nil_of xs (omega (arith, e))))
 last_from (x ∷ xs) (suc n) e = last_from xs n (omega (arith, e))
 
-last_one : (firsts : List DRule) → (firsts ≡ []) ⊎ ((l : DRule) × (drop (length firsts - 1) firsts ≡ l ∷ []))
+pub last_one : (firsts : List DRule) → (firsts ≡ []) ⊎ ((l : DRule) × (drop (length firsts - 1) firsts ≡ l ∷ []))
 last_one [] = inl refl
 last_one (x ∷ xs) = inr (last_from (x ∷ xs) (length (x ∷ xs) - 1) (omega arith))
 

@@ -27,8 +27,8 @@ pub fn messages_without_rules()
         → (u : AnyPolicy) (most : AnyLevels) (bytes : List ℕ) (c : ℕ) → IsValidOf d u most bytes c ↔ IsValidOf e u most bytes c }
 {}
 
-/// By rules of one normal form the same AVPs of a level are where the rules say.
+/// Rules have one normal form exactly if by both the same AVPs of a level are where the rules say.
 pub fn rules_of_one_form()
-    ensures { (rules others : List AnyRule) → AreRules rules → AreRules others → AreAlike rules others
-        → (keys : List AnyKey) → Placed rules keys ↔ Placed others keys }
+    ensures { (rules others : List AnyRule) → AreRules rules → AreRules others
+        → AreAlike rules others ↔ ((keys : List AnyKey) → Placed rules keys ↔ Placed others keys) }
 {}
