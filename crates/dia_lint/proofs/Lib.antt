@@ -1,4 +1,6 @@
 pub mod Added
+pub mod ChosenLevels
+pub mod ChosenPlans
 pub mod CommandLines
 pub mod ExactFindings
 pub mod Fillers
