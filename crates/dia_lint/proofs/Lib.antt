@@ -5,9 +5,11 @@ pub mod CommandLines
 pub mod ExactFindings
 pub mod Fillers
 pub mod FirstRequests
+pub mod FoundLevels
 pub mod FoundWays
 pub mod Headers
 pub mod HeldLevels
+pub mod HostedLevels
 pub mod InRange
 pub mod JoinedRanges
 pub mod LevelsOfParts

@@ -28,7 +28,7 @@ use Rattle.dia_breaking_shortest.proofs.Strangers.{IsStranger, stranger}
 use Rattle.dia_breaking_shortest.proofs.ShortestLevels.{asked_within, plan_all, plan_total}
 use Rattle.dia_lint.proofs.MadeAvps.{IsMade, leaf_made, unknown_made, group_made}
 
-padded_head : (key : Key) → padded (shortest_head key) ≡ shortest_head key
+pub padded_head : (key : Key) → padded (shortest_head key) ≡ shortest_head key
 padded_head key = by key.vendor
   where
     by : (n : ℕ) → padded (shortest_head (record { code = key.code; vendor = n })) ≡ shortest_head (record { code = key.code; vendor = n })
@@ -259,3 +259,12 @@ module _ (d : Dictionary) (sends : Sends) (lengths : List ℕ) (is : IsDictionar
         same = one_same d lengths s.0 is spells s.1 sends too_long a def fills.0 before has fills.1 below below;
         made = one_made d lengths s.0 is spells s.1 sends too_long a def fills.0 before has fills.1 below below;
       }
+
+  -- a key of a shortest AVP that the wildcard lets in
+  pub filler_key : (a : ℕ) (def : PlainDefinition) → Contains (definitions d) def → IsFillerLength d sends lengths def.rules a → a < too_long
+      → (key : Key) × (length_of d sends lengths key ≡ a) × (is_listed def.rules key ≡ false) × IsSpellable key
+  filler_key a def has is_a short =
+      let s = stranger d is in
+      let (key, own) = filled d lengths s.0 is spells s.1 sends def a has is_a in
+      let filled_by = own short in
+      (key, filled_by.0, filled_by.1, filled_by.2)
