@@ -188,7 +188,7 @@ module _ (s : Side) (is : IsDictionary s.book) (are : AreOfSide s) (r : Reached)
         key,
         free,
         made_in s n w.way w.def.rules key (cost.beside + other_in s key) w.hosts
-        (other_chosen s is are w.def (in_book n w) key free small (omega (arith, other, short))) (omega (arith, other, size, fits)),
+            (other_chosen s is are w.def (in_book n w) key free small (omega (arith, other, short))) (omega (arith, other, size, fits)),
       )
 
 -- ---- AVPs that come by rules

@@ -180,7 +180,7 @@ module _ (s : Side) (is : IsDictionary s.book) (are : AreOfSide s) (steps : List
         key = x.key;
         is_place = x.is_place;
         made = subst (IsMadeWith s def.rules x.key) length_is
-               (listed_chosen s is are def (in_definitions n def at) x.rule (contains_in def.rules x.rule x.is_rule) x.key x.is_key (omega (arith, length_is, short)));
+            (listed_chosen s is are def (in_definitions n def at) x.rule (contains_in def.rules x.rule x.is_rule) x.key x.is_key (omega (arith, length_is, short)));
       }
   made_at n def place size at (By_wildcard node is_node unlisted is_length) short = by (node_at s are place node is_node)
     where
@@ -194,7 +194,7 @@ module _ (s : Side) (is : IsDictionary s.book) (are : AreOfSide s) (steps : List
             key = key;
             is_place = own;
             made = subst (IsMadeWith s def.rules key) sum
-                   (other_chosen s is are def (in_definitions n def at) key (unlisted_key def.rules key place own unlisted) (are.spelled place x.entry x.at) (omega (arith, sum, short)));
+                (other_chosen s is are def (in_definitions n def at) key (unlisted_key def.rules key place own unlisted) (are.spelled place x.entry x.at) (omega (arith, sum, short)));
           }
       by (inr x) = absurd (let other : too_long + 1 ≡ node.other = ap (λ (y : PlainNode). y.other) x.is in omega (arith, other, is_length, short))
 

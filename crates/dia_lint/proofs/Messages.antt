@@ -203,9 +203,9 @@ module _ (d : Dictionary) (c : ℕ) (command : PlainDefinition) (at : slice_get 
         let own = own_level in
         let (keys, stand, all, sum) = least_made d sends lengths is are.spelled are.exact a command there filler (omega (arith, own, short)) in
         let b = made d sends (length_of d sends lengths) keys all in
-      let size = b.size in
-      let (bytes, sent, same_avps) = sent_message sends h of b.avps b.bytes b.spelled (omega (arith, size, sum, own, short)) b.are (subst (StandAsSent sends command.rules) (sym b.keys_are) stand) (b.depth, b.fit) in
-      (bytes, sent)
+        let size = b.size in
+        let (bytes, sent, same_avps) = sent_message sends h of b.avps b.bytes b.spelled (omega (arith, size, sum, own, short)) b.are (subst (StandAsSent sends command.rules) (sym b.keys_are) stand) (b.depth, b.fit) in
+        (bytes, sent)
 
     price_same : (rules : List DRule) (keys : List Key) → ((key : Key) → other_length d sends lengths key ≡ length_of d sends lengths key)
         → total (price (length_of d sends lengths) (other_length d sends lengths) rules) keys ≡ total (length_of d sends lengths) keys
