@@ -5,8 +5,8 @@ use Rattle.std.specs.List.{filter_map}
 use Rattle.std.specs.Option.{option_map, option_map_or}
 use Rattle.std.proofs.lemmas.Bool.{cases_eq, cases_lt}
 use Rattle.std.proofs.Math.ListN.{set}
-use Rattle.std.proofs.lemmas.List.{length-append, map-append}
-use Rattle.std.proofs.lemmas.List.Elements.{filter_map-append}
+use Rattle.std.proofs.lemmas.List.{length-append, length-set, map-append}
+use Rattle.std.proofs.lemmas.List.Elements.{Contains-append_cases, filter_map-append}
 use Rattle.std.proofs.lemmas.Option.{none-some, same_Some}
 use Rattle.dia_wire.specs.declared.Key.{Key}
 use Rattle.dia_book.specs.declared.DRule.{DRule}
@@ -14,7 +14,7 @@ use Rattle.dia_book.specs.Dictionary.{Dictionary, DictEntry, PlainDefinition, de
 use Rattle.dia_book.proofs.Members.{at_append, into_left, into_right}
 use Rattle.dia_valid.specs.Rules.{rules_in, wildcard_of}
 use Rattle.dia_valid.proofs.GroupNumbers.{group_number, group_there, number_of}
-use Rattle.dia_valid.proofs.Members.{at_some, taken, there_is, when_some}
+use Rattle.dia_valid.proofs.Members.{at_some, contains_in, in_at, taken, there_is, when_some}
 use Rattle.dia_breaking_levels.specs.LevelTests.{too_long, least_filler, least_length}
 use Rattle.dia_breaking_shortest.specs.Floors.{shortest_head}
 use Rattle.dia_breaking_ways.specs.Walks.{Graph, PlainExits, PlainNode, graph_of, plain_exits, plain_node}
@@ -27,8 +27,9 @@ use Rattle.dia_lint.specs.declared.levels.LevelCost.{LevelCost}
 use Rattle.dia_terms.specs.declared.Sends.{Sends}
 use Rattle.dia_lint.specs.Costs.{AreLengths}
 use Rattle.dia_lint.specs.Gathered.{gathered}
-use Rattle.dia_lint.specs.Ways.{Side, AreAvpsReached, AreNoWays, AreOfSide, AreWays, beside_of, command_node, cost_from, cost_of, entry_node, exits_of, graph_in, listed_in, nodes_of, other_in, start_of, start_part}
+use Rattle.dia_lint.specs.Ways.{Side, AreAvpsReached, AreNoWays, AreOfSide, AreWays, HaveWays, beside_of, command_node, cost_from, cost_of, entry_node, exits_of, graph_in, listed_in, nodes_of, other_in, start_of, start_part}
 use Rattle.dia_lint.proofs.Added.{one_part_more}
+use Rattle.dia_lint.proofs.WayGraphs.{one_contained}
 
 -- ---- costs
 
@@ -153,16 +154,19 @@ one_reached_more reached n b old new are is own = subst (AreAvpsReached reached 
         (subst (λ (c : Bool). slice_get (old ++ b ∷ []) (length old + 0) ≡ Some c) (own ∙ ap (is_reached reached) at) (into_right old (b ∷ []) 0 b refl))
 
 -- no way yet
-pub no_way_more : (old new : List (Option ℕ)) → AreNoWays old → new ≡ old ++ None ∷ [] → AreNoWays new
-no_way_more old new none is place way at = by (at_append old (None ∷ []) place (Some way) (ap (λ (xs : List (Option ℕ)). slice_get xs place) (sym is) ∙ at))
-  where
-    last : (j : ℕ) → slice_get (None ∷ []) j ≡ Some (Some way) → ⊥
-    last zero e = none-some way (same_Some None (Some way) e)
-    last (suc j) e = none-some (Some way) e
+pub none_yet : (ways : List (Option ℕ)) → ways ≡ [] → AreNoWays 0 ways
+none_yet ways is = (ap length is, λ place way at. none-some (Some way) (sym (ap (λ (xs : List (Option ℕ)). slice_get xs place) is) ∙ at))
 
-    by : (slice_get old place ≡ Some (Some way)) ⊎ ((j : ℕ) × (place ≡ length old + j) × (slice_get (None ∷ []) j ≡ Some (Some way))) → ⊥
-    by (inl here) = none place way here
-    by (inr (j, e, here)) = last j here
+pub no_way_more : (n : ℕ) (old new : List (Option ℕ)) → AreNoWays n old → new ≡ old ++ None ∷ [] → AreNoWays (n + 1) new
+no_way_more n old new (size, none) is = (ap length is ∙ omega (arith, length-append old (None ∷ []), size), λ place way at. by place way (at_append old (None ∷ []) place (Some way) (ap (λ (xs : List (Option ℕ)). slice_get xs place) (sym is) ∙ at)))
+  where
+    last : (way j : ℕ) → slice_get (None ∷ []) j ≡ Some (Some way) → ⊥
+    last way zero e = none-some way (same_Some None (Some way) e)
+    last way (suc j) e = none-some (Some way) e
+
+    by : (place way : ℕ) → (slice_get old place ≡ Some (Some way)) ⊎ ((j : ℕ) × (place ≡ length old + j) × (slice_get (None ∷ []) j ≡ Some (Some way))) → ⊥
+    by place way (inl here) = none place way here
+    by place way (inr (j, e, here)) = last way j here
 
 -- the way of one step more
 pub one_way_more : (steps : List Step) (step : Step) (old new : List (Option ℕ)) (place : ℕ) → AreWays steps old → Contains steps step → place ≡ step.place → place < length old
@@ -176,6 +180,49 @@ one_way_more steps step old new place are has is_place within is = λ p way at. 
         ap (slice_get (set old place (Some step.way))) same ∙ get_set_same old place (Some step.way) within in
         (step, has, sym is_place ∙ sym same, same_Some step.way way (same_Some (Some step.way) (Some way) (sym here ∙ at)))
     by p way at (inr other) = are p way (sym (get_set_other old place p (Some step.way) other) ∙ at)
+
+-- of so many places, the steps that were gone through have theirs
+pub record AreWaysOf (nodes : ℕ) (steps : List Step) (i : ℕ) (ways : List (Option ℕ)) : Type 0 where
+  pub size : length ways ≡ nodes
+  pub from : AreWays steps ways
+  pub each : HaveWays nodes (take i steps) ways
+
+-- one step more
+with_step : (nodes : ℕ) (steps : List Step) (i : ℕ) (step : Step) (old new : List (Option ℕ)) → AreWaysOf nodes steps i old → slice_get steps i ≡ Some step → length new ≡ nodes → AreWays steps new
+    → ((s : Step) (way : ℕ) → slice_get old s.place ≡ Some (Some way) → (w : ℕ) × (slice_get new s.place ≡ Some (Some w)))
+    → (step.place < nodes → (w : ℕ) × (slice_get new step.place ≡ Some (Some w))) → AreWaysOf nodes steps (i + 1) new
+with_step nodes steps i step old new are at size from keeps takes = record {
+  size = size;
+  from = from;
+  each = λ s has within. by s within (Contains-append_cases (take i steps) (step ∷ []) s (subst (λ (xs : List Step). Contains xs s) (taken steps i step at) has));
+}
+  where
+    by : (s : Step) → s.place < nodes → Contains (take i steps) s ⊎ Contains (step ∷ []) s → (w : ℕ) × (slice_get new s.place ≡ Some (Some w))
+    by s within (inl before) = let own = are.each s before within in keeps s own.0 own.1
+    by s within (inr here) =
+        let same : step ≡ s = one_contained step s here in
+        subst (λ (t : Step). t.place < nodes → (w : ℕ) × (slice_get new t.place ≡ Some (Some w))) same takes within
+
+pub one_step_more : (nodes : ℕ) (steps : List Step) (i : ℕ) (step : Step) (old new : List (Option ℕ)) (place : ℕ) → AreWaysOf nodes steps i old → slice_get steps i ≡ Some step → place ≡ step.place
+    → place < length old → new ≡ slice_set old place (Some step.way) → AreWaysOf nodes steps (i + 1) new
+one_step_more nodes steps i step old new place are at is_place within is =
+    let size = are.size in
+    with_step nodes steps i step old new are at (ap length is ∙ length-set old place (Some step.way) ∙ size)
+    (one_way_more steps step old new place are.from (contains_in steps step (in_at steps i step at)) is_place within is)
+    (λ s way there. by s way there (cases_eq s.place place)) (λ less. (step.way, here step.place is_place))
+  where
+    here : (p : ℕ) → place ≡ p → slice_get new p ≡ Some (Some step.way)
+    here p same = ap (λ (xs : List (Option ℕ)). slice_get xs p) is ∙ ap (slice_get (set old place (Some step.way))) (sym same) ∙ get_set_same old place (Some step.way) within
+
+    by : (s : Step) (way : ℕ) → slice_get old s.place ≡ Some (Some way) → (s.place ≡ place) ⊎ (s.place ≢ place) → (w : ℕ) × (slice_get new s.place ≡ Some (Some w))
+    by s way there (inl same) = (step.way, here s.place (sym same))
+    by s way there (inr other) = (way, ap (λ (xs : List (Option ℕ)). slice_get xs s.place) is ∙ get_set_other old place s.place (Some step.way) other ∙ there)
+
+-- a step to another place
+pub no_step_more : (nodes : ℕ) (steps : List Step) (i : ℕ) (step : Step) (ways : List (Option ℕ)) → AreWaysOf nodes steps i ways → slice_get steps i ≡ Some step → length ways ≤ step.place
+    → AreWaysOf nodes steps (i + 1) ways
+no_step_more nodes steps i step ways are at beyond =
+    with_step nodes steps i step ways ways are at are.size are.from (λ s way there. (way, there)) (λ less. absurd (let size = are.size in omega (arith, less, size, beyond)))
 
 -- ---- the graph
 

@@ -1,11 +1,15 @@
 pub mod Added
+pub mod ChosenLevels
+pub mod ChosenPlans
 pub mod CommandLines
 pub mod ExactFindings
 pub mod Fillers
 pub mod FirstRequests
+pub mod FoundLevels
 pub mod FoundWays
 pub mod Headers
 pub mod HeldLevels
+pub mod HostedLevels
 pub mod InRange
 pub mod JoinedRanges
 pub mod LevelsOfParts

@@ -14,7 +14,7 @@ use Rattle.dia_terms.specs.declared.Sends.{Sends}
 use Rattle.dia_terms.specs.declared.Sends.TheVariants.{Any, Known, Listed}
 use Rattle.dia_breaking_sites.specs.Sent.{StandAsSent, AreBytes}
 use Rattle.dia_breaking_data.specs.Shortest.{AreBytes as AreLeafBytes}
-use Rattle.dia_breaking_levels.specs.LeastLevels.{total, or_filler, plan, WantsOver}
+use Rattle.dia_breaking_levels.specs.LeastLevels.{total, or_filler, plan, IsFiller}
 use Rattle.dia_breaking_levels.specs.LevelTests.{too_long, base_length}
 use Rattle.dia_breaking_levels.proofs.FloorBounds.{rule_of_listed}
 use Rattle.dia_breaking_levels.proofs.LeastLevels.{definition_rules, plan_placed}
@@ -28,7 +28,7 @@ use Rattle.dia_breaking_shortest.proofs.Strangers.{IsStranger, stranger}
 use Rattle.dia_breaking_shortest.proofs.ShortestLevels.{asked_within, plan_all, plan_total}
 use Rattle.dia_lint.proofs.MadeAvps.{IsMade, leaf_made, unknown_made, group_made}
 
-padded_head : (key : Key) → padded (shortest_head key) ≡ shortest_head key
+pub padded_head : (key : Key) → padded (shortest_head key) ≡ shortest_head key
 padded_head key = by key.vendor
   where
     by : (n : ℕ) → padded (shortest_head (record { code = key.code; vendor = n })) ≡ shortest_head (record { code = key.code; vendor = n })
@@ -43,22 +43,31 @@ in_bytes (x ∷ xs) are = (are.0, in_bytes xs are.1)
 stranger_head : (key : Key) → key.vendor ≡ 0 → shortest_head key ≡ 8
 stranger_head key none = ap (λ (n : ℕ). shortest_head (record { code = key.code; vendor = n })) none
 
+-- the keys of entries can be spelled
+pub known_spelled : (d : Dictionary) → AreSpellable d → (key : Key) → IsSome (entry_of d key) → IsSpellable key
+known_spelled d spells key some = by (entry_of d key) refl
+  where
+    by : (o : Option ℕ) → entry_of d key ≡ o → IsSpellable key
+    by None e = absurd (let bad : false ≡ true = subst IsSome e some in cc)
+    by (Some i) e = let h = entry_at d key i e in subst IsSpellable h.own (spells h.place h.entry h.at)
+
+-- where nothing comes through a wildcard, rules list what a least level has
+pub asked_listed : (f : Key → ℕ) (a : ℕ) (q : Key) (rules : List DRule) → a ≡ too_long → base_length f a rules < too_long → (r : DRule) → IsIn r rules → 1 ≤ r.min → IsTrue (is_listed rules (or_filler q r.key))
+asked_listed f a q rules none below r i some = by r.key refl (asked_within f a rules below r i some)
+  where
+    by : (o : Option Key) → r.key ≡ o → option_map_or f o a ≤ base_length f a rules → IsTrue (is_listed rules (or_filler q o))
+    by (Some key) e low = is_listed_by rules key r i e
+    by None e low = absurd (omega (arith, low, none, below))
+
 module _ (d : Dictionary) (lengths : List ℕ) (unknown : Key) (is : IsDictionary d) (spells : AreSpellable d) (strange : IsStranger d unknown) where
   -- ---- keys that can be spelled
-
-  known_spelled : (key : Key) → IsSome (entry_of d key) → IsSpellable key
-  known_spelled key some = by (entry_of d key) refl
-    where
-      by : (o : Option ℕ) → entry_of d key ≡ o → IsSpellable key
-      by None e = absurd (let bad : false ≡ true = subst IsSome e some in cc)
-      by (Some i) e = let h = entry_at d key i e in subst IsSpellable h.own (spells h.place h.entry h.at)
 
   short_spelled : (key : Key) → length_of d Known lengths key < too_long → IsSpellable key
   short_spelled key = by (entry_of d key) refl
     where
       by : (o : Option ℕ) → entry_of d key ≡ o → option_map_or (entry_length lengths) o too_long < too_long → IsSpellable key
       by None e lt = absurd (omega (arith, lt))
-      by (Some i) e lt = known_spelled key (subst IsSome (sym e) refl)
+      by (Some i) e lt = known_spelled d spells key (subst IsSome (sym e) refl)
 
   stranger_spelled : IsSpellable unknown
   stranger_spelled = (strange.code, let none = strange.vendor in omega (arith, none))
@@ -128,32 +137,25 @@ module _ (d : Dictionary) (lengths : List ℕ) (unknown : Key) (is : IsDictionar
         by : (o : Option Key) → r.key ≡ o → option_map_or (length_of d sends lengths) o a ≤ base_length (length_of d sends lengths) a group.rules
             → IsMade d sends (or_filler q o) (length_of d sends lengths (or_filler q o))
         by (Some key) e low =
-            before key (known_spelled key (is.known_keys group r key has (contains_in group.rules r i) e)) (omega (arith, low, within)) (omega (arith, low, below))
+            before key (known_spelled d spells key (is.known_keys group r key has (contains_in group.rules r i) e)) (omega (arith, low, within)) (omega (arith, low, below))
         by None e low =
             let own = fills (omega (arith, low, below)) in
             let same = own.0 in
             before q own.2 (omega (arith, same, low, within)) (omega (arith, same, low, below))
 
-    placed : AreRules group.rules → Placed group.rules (plan q group.rules)
-    placed are = plan_placed group.rules q are free
+    free : IsFiller 0 group.rules q
+    free (w, (c, none), some) = by w none (asked_within (length_of d sends lengths) a group.rules below w (in_contains group.rules w c) some)
       where
         by : (w : DRule) → w.key ≡ None → option_map_or (length_of d sends lengths) w.key a ≤ base_length (length_of d sends lengths) a group.rules → is_listed group.rules q ≡ false
         by w none low =
             let own = ap (λ (o : Option Key). option_map_or (length_of d sends lengths) o a) none in
             (fills (omega (arith, own, low, below))).1
 
-        free : WantsOver 0 group.rules → is_listed group.rules q ≡ false
-        free (w, (c, none), some) = by w none (asked_within (length_of d sends lengths) a group.rules below w (in_contains group.rules w c) some)
+    placed : AreRules group.rules → Placed group.rules (plan q group.rules)
+    placed are = plan_placed group.rules q are free
 
   listed_all : (a : ℕ) (q : Key) (rules : List DRule) → a ≡ too_long → base_length (length_of d Listed lengths) a rules < too_long → AllByRecursion (λ key. IsTrue (is_listed rules key)) (plan q rules)
-  listed_all a q rules none below = plan_all (λ (key : Key). IsTrue (is_listed rules key)) q rules each
-    where
-      each : (r : DRule) → IsIn r rules → 1 ≤ r.min → IsTrue (is_listed rules (or_filler q r.key))
-      each r i some = by r.key refl (asked_within (length_of d Listed lengths) a rules below r i some)
-        where
-          by : (o : Option Key) → r.key ≡ o → option_map_or (length_of d Listed lengths) o a ≤ base_length (length_of d Listed lengths) a rules → IsTrue (is_listed rules (or_filler q o))
-          by (Some key) e low = is_listed_by rules key r i e
-          by None e low = absurd (omega (arith, low, none, below))
+  listed_all a q rules none below = plan_all (λ (key : Key). IsTrue (is_listed rules key)) q rules (asked_listed (length_of d Listed lengths) a q rules none below)
 
   stand : (sends : Sends) (a : ℕ) (q : Key) (rules : List DRule) → IsFillerLength d sends lengths rules a → base_length (length_of d sends lengths) a rules < too_long → Placed rules (plan q rules)
       → StandAsSent sends rules (plan q rules)
@@ -223,6 +225,13 @@ module _ (d : Dictionary) (lengths : List ℕ) (unknown : Key) (is : IsDictionar
     all_made zero key small le short = key_made zero key (λ k s lt low. absurd (omega (arith, lt))) small le short
     all_made (suc v) key small le short = key_made (suc v) key (λ k s lt low. all_made v k s (omega (arith, lt)) low) small le short
 
+-- the key that meets the wildcard's least count, and all AVPs that the rules ask for are made
+pub record AreAskedMade (d : Dictionary) (sends : Sends) (lengths : List ℕ) (a : ℕ) (rules : List DRule) : Type 0 where
+  pub filler : Key
+  pub free : IsFiller 0 rules filler
+  pub same : (r : DRule) → IsIn r rules → 1 ≤ r.min → length_of d sends lengths (or_filler filler r.key) ≡ option_map_or (length_of d sends lengths) r.key a
+  pub made : (r : DRule) → IsIn r rules → 1 ≤ r.min → IsMade d sends (or_filler filler r.key) (length_of d sends lengths (or_filler filler r.key))
+
 module _ (d : Dictionary) (sends : Sends) (lengths : List ℕ) (is : IsDictionary d) (spells : AreSpellable d) (exact : AreExact d sends lengths) where
   pub length_made : (key : Key) → IsSpellable key → length_of d sends lengths key < too_long → IsMade d sends key (length_of d sends lengths key)
   length_made key small short =
@@ -236,3 +245,26 @@ module _ (d : Dictionary) (sends : Sends) (lengths : List ℕ) (is : IsDictionar
   least_made a def has is_a below =
       let s = stranger d is in
       level_made d lengths s.0 is spells s.1 sends too_long a def (λ key small lt short. length_made key small short) has is_a below below
+
+  -- and what it is made of
+  pub asked_made : (a : ℕ) (def : PlainDefinition) → Contains (definitions d) def → IsFillerLength d sends lengths def.rules a → base_length (length_of d sends lengths) a def.rules < too_long
+      → AreAskedMade d sends lengths a def.rules
+  asked_made a def has is_a below =
+      let s = stranger d is in
+      let before : AreMadeBelow d lengths s.0 is spells s.1 sends too_long = λ key small lt short. length_made key small short in
+      let fills = filled d lengths s.0 is spells s.1 sends def a has is_a in
+      record {
+        filler = fills.0;
+        free = free d lengths s.0 is spells s.1 sends too_long a def fills.0 before has fills.1 below below;
+        same = one_same d lengths s.0 is spells s.1 sends too_long a def fills.0 before has fills.1 below below;
+        made = one_made d lengths s.0 is spells s.1 sends too_long a def fills.0 before has fills.1 below below;
+      }
+
+  -- a key of a shortest AVP that the wildcard lets in
+  pub filler_key : (a : ℕ) (def : PlainDefinition) → Contains (definitions d) def → IsFillerLength d sends lengths def.rules a → a < too_long
+      → (key : Key) × (length_of d sends lengths key ≡ a) × (is_listed def.rules key ≡ false) × IsSpellable key
+  filler_key a def has is_a short =
+      let s = stranger d is in
+      let (key, own) = filled d lengths s.0 is spells s.1 sends def a has is_a in
+      let filled_by = own short in
+      (key, filled_by.0, filled_by.1, filled_by.2)

@@ -22,7 +22,7 @@ use Rattle.dia_valid.proofs.Members.{contains_in, in_at}
 use Rattle.dia_breaking_sites.specs.Sent.{AreBytes, AreSentAvps, IsSent, IsSentLevel, IsSentWithin, StandAsSent, own_policy}
 use Rattle.dia_breaking_sites.proofs.Members.{all_map, all_parts}
 use Rattle.dia_breaking_sites.proofs.SafeLevels.{body_more}
-use Rattle.dia_breaking_sites.proofs.SentIsValid.{sent_valid, valid_sent}
+use Rattle.dia_breaking_sites.proofs.SentIsValid.{valid_sent}
 use Rattle.dia_breaking_levels.specs.LeastLevels.{total}
 use Rattle.dia_breaking_levels.specs.LevelTests.{too_long, base_length, least_filler, least_length, price}
 use Rattle.dia_breaking_levels.proofs.AloneBounds.{least_within}
@@ -97,7 +97,7 @@ module _ (d : Dictionary) (sends : Sends) (lengths : List ℕ) (others : List Ke
 
 -- ---- bodies
 
-aligned : (vs : List PlainAvp) (b : List ℕ) → SpellsAll vs b → length b % 4 ≡ 0
+pub aligned : (vs : List PlainAvp) (b : List ℕ) → SpellsAll vs b → length b % 4 ≡ 0
 aligned [] b h = ap (λ (x : List ℕ). length x % 4) h
 aligned (v ∷ vs) b (front, rest, s, p, all) =
     let e : length b ≡ length front + length rest = ap length p ∙ length-append front rest in
@@ -167,6 +167,28 @@ module _ (d : Dictionary) (c : ℕ) (command : PlainDefinition) (at : slice_get 
         is_body = spelled;
       }
 
+  -- it is sent, if the level can be
+  pub sent_message : (sends : Sends) (h : Header) → IsHeaded h → (avps : List PlainAvp) (body : List ℕ) → SpellsAll avps body → length body < too_long → AreBytes body
+      → StandAsSent sends command.rules (map key_of avps) → AreSentAvps d sends avps → (bytes : List ℕ) × (sent : IsSent d sends bytes c) × (sent.avps ≡ avps)
+  sent_message sends h of avps body spelled short all stand sent = (
+    head_bytes h (20 + length body) ++ body,
+    record {
+      header = h;
+      avps = avps;
+      command = command;
+      are_bytes = joined (head_bytes h (20 + length body)) body (head_are h (20 + length body) of.flags) all;
+      message = message_of h of avps body spelled short;
+      no_error_request = of.no_error_request;
+      no_repeated_answer = of.no_repeated_answer;
+      select = of.select;
+      is_command = at;
+      proxiable = of.proxiable;
+      stand = stand;
+      sent = sent;
+    },
+    refl,
+  )
+
   module _ (sends : Sends) (lengths : List ℕ) (others : List Key) (is : IsDictionary d) (are : AreLengths d sends lengths others) (same : IsSame sends) where
     there : Contains (definitions d) command
     there = contains_in (definitions d) command (in_at (definitions d) c command at)
@@ -182,23 +204,8 @@ module _ (d : Dictionary) (c : ℕ) (command : PlainDefinition) (at : slice_get 
         let (keys, stand, all, sum) = least_made d sends lengths is are.spelled are.exact a command there filler (omega (arith, own, short)) in
         let b = made d sends (length_of d sends lengths) keys all in
         let size = b.size in
-        let bytes = head_bytes h (20 + length b.bytes) ++ b.bytes in (
-          bytes,
-          record {
-            header = h;
-            avps = b.avps;
-            command = command;
-            are_bytes = joined (head_bytes h (20 + length b.bytes)) b.bytes (head_are h (20 + length b.bytes) of.flags) b.are;
-            message = message_of h of b.avps b.bytes b.spelled (omega (arith, size, sum, own, short));
-            no_error_request = of.no_error_request;
-            no_repeated_answer = of.no_repeated_answer;
-            select = of.select;
-            is_command = at;
-            proxiable = of.proxiable;
-            stand = subst (StandAsSent sends command.rules) (sym b.keys_are) stand;
-            sent = (b.depth, b.fit);
-          },
-        )
+        let (bytes, sent, same_avps) = sent_message sends h of b.avps b.bytes b.spelled (omega (arith, size, sum, own, short)) b.are (subst (StandAsSent sends command.rules) (sym b.keys_are) stand) (b.depth, b.fit) in
+        (bytes, sent)
 
     price_same : (rules : List DRule) (keys : List Key) → ((key : Key) → other_length d sends lengths key ≡ length_of d sends lengths key)
         → total (price (length_of d sends lengths) (other_length d sends lengths) rules) keys ≡ total (length_of d sends lengths) keys
@@ -265,8 +272,31 @@ pub sent_avps : (d : Dictionary) (u : Unknown) (avps : List PlainAvp) → AllFit
 sent_avps d Kept avps (n, all) = (n, all_map (Fits d Kept n) (IsSentWithin d Any n) avps (λ v k. sent d Any (same_of Kept) n v k) all)
 sent_avps d Refused avps (n, all) = (n, all_map (Fits d Refused n) (IsSentWithin d Known n) avps (λ v k. sent d Known (same_of Refused) n v k) all)
 
+-- and what is sent is valid
+fit_avps : (d : Dictionary) (u : Unknown) (avps : List PlainAvp) → AreSentAvps d (sender_of u) avps → AllFit d u levels.Any avps
+fit_avps d Kept avps (n, all) = (n, all_map (IsSentWithin d Any n) (Fits d Kept n) avps (λ v k. fits d Any (same_of Kept) n v k) all)
+fit_avps d Refused avps (n, all) = (n, all_map (IsSentWithin d Known n) (Fits d Refused n) avps (λ v k. fits d Known (same_of Refused) n v k) all)
+
+pub valid_of : (d : Dictionary) (u : Unknown) (bytes : List ℕ) (c : ℕ) (s : IsSent d (sender_of u) bytes c) → (valid : IsValidOf d u levels.Any bytes c) × (valid.avps ≡ s.avps)
+valid_of d u bytes c s = (
+  record {
+    header = s.header;
+    avps = s.avps;
+    command = s.command;
+    message = s.message;
+    no_error_request = s.no_error_request;
+    no_repeated_answer = s.no_repeated_answer;
+    select = s.select;
+    is_command = s.is_command;
+    proxiable = s.proxiable;
+    placed = (same_of u s.command.rules (map key_of s.avps)).0 s.stand;
+    fit = fit_avps d u s.avps s.sent;
+  },
+  refl,
+)
+
 module _ (d : Dictionary) (u : Unknown) (lengths : List ℕ) (others : List Key) (is : IsDictionary d) (are : AreLengths d (sender_of u) lengths others) where
-  others_same : (key : Key) → other_length d (sender_of u) lengths key ≡ length_of d (sender_of u) lengths key
+  pub others_same : (key : Key) → other_length d (sender_of u) lengths key ≡ length_of d (sender_of u) lengths key
   others_same key = by u
     where
       by : (w : Unknown) → other_length d (sender_of w) lengths key ≡ length_of d (sender_of w) lengths key
@@ -290,8 +320,7 @@ module _ (d : Dictionary) (u : Unknown) (lengths : List ℕ) (others : List Key)
       let place : slice_get (definitions d) (length (groups d) + i) ≡ Some command = into_right (groups d) d.commands i command at in
       let (h, of) = some_header d is i command at numbered in
       let (bytes, s) = message_made d (length (groups d) + i) command place (sender_of u) lengths others is are (same_of u) h of short in
-      let valid = sent_valid d (sender_of u) bytes (length (groups d) + i) s in
-      (bytes, s.are_bytes, subst (λ (p : Unknown). IsValidOf d p levels.Any bytes (length (groups d) + i)) (own_of u) valid)
+      (bytes, s.are_bytes, (valid_of d u bytes (length (groups d) + i) s).0)
 
   pub no_message_exact : (i : ℕ) (command : PlainDefinition) → slice_get d.commands i ≡ Some command → IsNumbered command.head
       → (too_long ≤ level_of d (sender_of u) lengths others (length (groups d) + i)) ↔ ¬ HasMessage d u (length (groups d) + i)

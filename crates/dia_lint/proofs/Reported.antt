@@ -195,7 +195,7 @@ module _ (d : Dictionary) (lengths : List ℕ) where
       subst (λ (o : Option ℕ). Contains (option_map_or (λ def. if nat_le too_long (entry_length lengths e) then def ∷ [] else []) o []) x) (sym is)
       (contains_if (nat_le too_long (entry_length lengths e)) x test)
 
-  entry_there : (e n : ℕ) → group_place d e ≡ Some n → (entry : DictEntry) × (slice_get d.entries e ≡ Some entry)
+  pub entry_there : (e n : ℕ) → group_place d e ≡ Some n → (entry : DictEntry) × (slice_get d.entries e ≡ Some entry)
   entry_there e n is = by (slice_get d.entries e) refl is
     where
       by : (o : Option DictEntry) → slice_get d.entries e ≡ o → option_and_then (λ (x : DictEntry). option_map (λ _. number_of d e) x.group) o ≡ Some n

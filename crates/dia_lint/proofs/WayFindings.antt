@@ -149,7 +149,7 @@ of_avps s r listed n y inside =
 -- ---- commands
 
 -- the command that is selected
-selected_command : (d : Dictionary) (code : ℕ) (class : Class) (app c : ℕ) (command : PlainDefinition) → selected d code class app ≡ Some c → slice_get (definitions d) c ≡ Some command
+pub selected_command : (d : Dictionary) (code : ℕ) (class : Class) (app c : ℕ) (command : PlainDefinition) → selected d code class app ≡ Some c → slice_get (definitions d) c ≡ Some command
     → (i : ℕ) × (c ≡ length (groups d) + i) × (slice_get d.commands i ≡ Some command)
 selected_command d code class app c command is at =
     let first = first_number (option_or (position (λ (x : PlainDefinition). is_command code class (Some app) x.head) d.commands) (position (λ (x : PlainDefinition). is_command code class None x.head) d.commands)) is in

@@ -35,6 +35,7 @@ use Rattle.dia_lint.specs.OwnRules.{named_by}
 use Rattle.dia_lint.specs.WayLines.{AddsUnreached, rule_length, IsListedReached, Reported, With_commands, Without_commands, avp_part, command_part, group_part}
 use Rattle.dia_lint.specs.Ways.{Side, AreOfSide, IsReached, cost_of, graph_in, has_in, listed_in, other_in, way_in, with_listed, with_other, with_rule}
 use Rattle.dia_lint.proofs.Fillers.{filler_least}
+use Rattle.dia_lint.proofs.FoundWays.{rules_at}
 use Rattle.dia_lint.proofs.HeldLevels.{IsPlaceOf, other_within, rule_within}
 use Rattle.dia_lint.proofs.Reported.{own_place}
 use Rattle.dia_lint.proofs.WayFindings.{At, IsOfAvp, IsOfLevels, entry_in, has_entry, is_held_rule, is_listed_rule, is_stands_rule, listed_level, number_in, of_avps, of_commands, of_groups, reported_in, valid_level}
@@ -114,10 +115,6 @@ no_group d n e i is at within number =
         by None at = absurd (none-some n (sym (ap (λ (o : Option DictEntry). option_and_then (λ (x : DictEntry). option_map (λ _. number_of d j) x.group) o) at) ∙ h))
         by (Some x) at = (x, at)
 
--- the rules of a definition that is there
-rules_at : (d : Dictionary) (n : ℕ) (x : PlainDefinition) → slice_get (definitions d) n ≡ Some x → rules_in d n ≡ x.rules
-rules_at d n x at = ap (λ (o : Option PlainDefinition). option_map_or (λ (y : PlainDefinition). y.rules) o []) at
-
 -- ---- of AVPs that come by rules
 
 listed_has : (s : Side) (is : IsDictionary s.book) (are : AreOfSide s) (r : Reached) (reached : IsReached s r) → s.sends ≡ Listed → (e : ℕ) (entry : DictEntry) → slice_get s.book.entries e ≡ Some entry
@@ -134,7 +131,7 @@ held_by_rules d r is (s, book, sends, are, reached) =
 
 -- of AVPs, if there is a command
 abbrev pub AreAvpWays : Side → Reached → List Reported → Type 0
-AreAvpWays s r x = (x ≡ []) ⊎ ((listed : Reached) × IsListedReached s.book listed × (x ≡ gathered (avp_part s r listed) (length s.book.entries)))
+AreAvpWays s r x = ((length s.book.commands ≡ 0) × (x ≡ [])) ⊎ ((listed : Reached) × IsListedReached s.book listed × (x ≡ gathered (avp_part s r listed) (length s.book.entries)))
 
 pub record Unreached (s : Side) (r : Reached) (old new : List Finding) : Type 0 where
   pub ways : List Reported
@@ -142,7 +139,7 @@ pub record Unreached (s : Side) (r : Reached) (old new : List Finding) : Type 0 
   pub are : AreAvpWays s r ways
 
 pub unreached : (s : Side) (r : Reached) (old new : List Finding) → AddsUnreached s r old new → Unreached s r old new
-unreached s r old new (Without_commands none same) = record { ways = []; adds = same; are = inl refl }
+unreached s r old new (Without_commands none same) = record { ways = []; adds = same; are = inl (none, refl) }
 unreached s r old new (With_commands listed is adds) = record { ways = gathered (avp_part s r listed) (length s.book.entries); adds = adds; are = inr (listed, is, refl) }
 
 -- what is added where there is a command
@@ -164,7 +161,7 @@ module _ (u : Unknown) (s : Side) (is : IsDictionary s.book) (are : AreOfSide s)
       by_levels (inr c) = inl (of_commands s r y c)
 
       by_avps : AreAvpWays s r x → Contains x y → IsFound y
-      by_avps (inl none) c = absurd (let h = subst (λ (ws : List Reported). Contains ws y) none c in let lt = h.1 in omega (arith, lt))
+      by_avps (inl (commands, none)) c = absurd (let h = subst (λ (ws : List Reported). Contains ws y) none c in let lt = h.1 in omega (arith, lt))
       by_avps (inr (listed, of, is_x)) c = inr (listed, of, of_avps s r listed (length s.book.entries) y (subst (λ (ws : List Reported). Contains ws y) is_x c))
 
       by : Contains (gathered (group_part s r) (length s.book.entries) ++ gathered (command_part s r) (length s.book.commands)) y ⊎ Contains x y → IsFound y

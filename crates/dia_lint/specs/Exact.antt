@@ -34,6 +34,10 @@ IsNumbered (Group key) = ⊥
 IsNumbered (Command code class app p) = (code < three_bytes) × IfSome app (λ a. a < 2 ^ 32)
 IsNumbered (Error p) = ⊤
 
+-- of each command
+abbrev pub AreNumbered : Dictionary → Type 0
+AreNumbered d = (i : ℕ) (command : PlainDefinition) → slice_get d.commands i ≡ Some command → IsNumbered command.head
+
 -- ---- the findings
 
 abbrev pub is_no_message : Rule → Bool

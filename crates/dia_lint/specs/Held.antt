@@ -1,7 +1,8 @@
 -- What the levels of messages have, and the findings about what none of them has (RFC 6733 sections 3.2 and 4.4).
-use Rattle.std.specs.Prelude.{◌≡◌, ℕ, zero, suc, false, List, map, Option, Some, option_and_then, slice_get, Contains}
+use Rattle.std.specs.Prelude.{◌⊎◌, ◌≡◌, ℕ, zero, suc, ◌<◌, true, false, List, length, map, Option, Some, None, option_and_then, slice_get, Contains}
 use Rattle.dia_wire.specs.declared.Key.{Key}
 use Rattle.dia_wire.specs.Wire.{PlainAvp, SpellsAll, key_of}
+use Rattle.dia_book.specs.declared.DRule.{DRule}
 use Rattle.dia_book.specs.Dictionary.{Dictionary, DictEntry, entry_of, group_place}
 use Rattle.dia_terms.specs.declared.Levels.TheVariants as levels
 use Rattle.dia_terms.specs.declared.Sends.TheVariants.{Listed}
@@ -15,6 +16,8 @@ use Rattle.dia_lint.specs.declared.finding.Subject.{Subject}
 use Rattle.dia_lint.specs.declared.finding.Subject.TheVariants.{Avp, Within}
 use Rattle.dia_lint.specs.declared.rule.Rule.{Rule}
 use Rattle.dia_lint.specs.declared.rule.Rule.TheVariants.{NeverHeld, NeverListed, NeverStands}
+use Rattle.dia_lint.specs.Exact.{AreNumbered, is_no_level, reported}
+use Rattle.dia_lint.specs.Guidelines.{lets_in}
 
 -- ---- levels of messages
 
@@ -81,3 +84,33 @@ NeverStandsIsTrue d u found = (n : ℕ) (key : Key) → IsReported found NeverSt
 
 abbrev pub NoOthersIsTrue : Dictionary → Unknown → List Finding → Type 0
 NoOthersIsTrue d u found = (n : ℕ) → IsReported found NeverStands (Within n named.Others) → ¬ IsOtherInLevel d u n
+
+-- ---- and of nothing else where commands can be in a header
+
+-- some valid message has a level of the definition
+abbrev pub HasValidLevel : Dictionary → Unknown → ℕ → Type 0
+HasValidLevel d u n = (level : List PlainAvp) × IsValidLevel d u n level
+
+-- `no-level` is reported of the entry's group
+abbrev pub HasNoLevel : Dictionary → List Finding → ℕ → Type 0
+HasNoLevel d found e = (n : ℕ) × (group_place d e ≡ Some n) × Contains (reported is_no_level found) n
+
+-- if there is a command, some valid message has each other AVP, unless `no-level` is reported of it
+abbrev pub OthersAreHeld : Dictionary → Unknown → List Finding → Type 0
+OthersAreHeld d u found = AreNumbered d → 0 < length d.commands → (e : ℕ) (entry : DictEntry) → slice_get d.entries e ≡ Some entry → ¬ HasNoLevel d found e
+    → IsReported found NeverHeld (Avp e) ⊎ IsHeld d u entry.key
+
+-- each other AVP that a valid message has comes in some message by rules alone
+abbrev pub OthersAreListed : Dictionary → Unknown → List Finding → Type 0
+OthersAreListed d u found = AreNumbered d → (e : ℕ) (entry : DictEntry) → slice_get d.entries e ≡ Some entry → IsHeld d u entry.key
+    → IsReported found NeverListed (Avp e) ⊎ IsHeldByRules d entry.key
+
+-- where a valid message has a level of the definition, one has such a level with an AVP of each other rule that lets AVPs in, and
+-- one through each other wildcard
+abbrev pub OthersStand : Dictionary → Unknown → List Finding → Type 0
+OthersStand d u found = AreNumbered d → (n : ℕ) (rule : DRule) (key : Key) → Contains (rules_in d n) rule → rule.key ≡ Some key → lets_in rule ≡ true → HasValidLevel d u n
+    → IsReported found NeverStands (Within n (named.Key key)) ⊎ IsInLevel d u n key
+
+abbrev pub OtherWildcardsStand : Dictionary → Unknown → List Finding → Type 0
+OtherWildcardsStand d u found = AreNumbered d → (n : ℕ) (rule : DRule) → Contains (rules_in d n) rule → rule.key ≡ None → lets_in rule ≡ true → HasValidLevel d u n
+    → IsReported found NeverStands (Within n named.Others) ⊎ IsOtherInLevel d u n

@@ -117,13 +117,19 @@ pub record AreAvpsReached (reached : List (Option Reach)) (n : ℕ) (avps : List
 abbrev pub AreWays : List Step → List (Option ℕ) → Type 0
 AreWays steps ways = (place way : ℕ) → slice_get ways place ≡ Some (Some way) → (step : Step) × Contains steps step × (step.place ≡ place) × (step.way ≡ way)
 
-abbrev pub AreNoWays : List (Option ℕ) → Type 0
-AreNoWays ways = (place way : ℕ) → ¬ (slice_get ways place ≡ Some (Some way))
+-- and each step to one of the first places has one
+abbrev pub HaveWays : ℕ → List Step → List (Option ℕ) → Type 0
+HaveWays nodes steps ways = (step : Step) → Contains steps step → step.place < nodes → (way : ℕ) × (slice_get ways step.place ≡ Some (Some way))
+
+-- no place of so many has one
+abbrev pub AreNoWays : ℕ → List (Option ℕ) → Type 0
+AreNoWays nodes ways = (length ways ≡ nodes) × ((place way : ℕ) → ¬ (slice_get ways place ≡ Some (Some way)))
 
 -- a walk reaches these AVPs, and its steps have these ways
 pub record AreReachedBy (entries : ℕ) (steps : List Step) (reached : List (Option Reach)) (r : Reached) : Type 0 where
   pub avps : AreAvpsReached reached entries r.avps.items
   pub ways : AreWays steps r.ways.items
+  pub each : HaveWays (length reached) steps r.ways.items
 
 pub record IsReached (s : Side) (r : Reached) : Type 0 where
   pub steps : List Step

@@ -8,6 +8,7 @@ ghost use Rattle.dia_lint.specs.Exact.{AreAscending, AreOfMessages, NoLevelIsExa
 ghost use Rattle.dia_lint.specs.Exact.{OthersHaveMessages, is_no_level, is_no_message, is_of_messages, reported};
 ghost use Rattle.dia_lint.specs.Gathered.{Adds, IsAside, gathered, long_command, long_commands, long_group, long_groups, ways_in};
 ghost use Rattle.dia_lint.specs.Held.{NeverHeldIsTrue, NeverListedIsTrue, NeverStandsIsTrue, NoOthersIsTrue};
+ghost use Rattle.dia_lint.specs.Held.{OthersAreHeld, OthersAreListed, OthersStand, OtherWildcardsStand};
 ghost use Rattle.dia_lint.specs.WayLines.{command_part, definition_part, group_part, rule_length, rules_part, stands_part};
 ghost use Rattle.dia_lint.specs.Ways.{side_of};
 
@@ -43,6 +44,10 @@ pub fn exact_findings<B: Book>(
     ensures never_listed { IfOk result (λ found. NeverListedIsTrue (B.meaning book.now) found.items) }
     ensures never_stands { IfOk result (λ found. NeverStandsIsTrue (B.meaning book.now) unknown found.items) }
     ensures no_others { IfOk result (λ found. NoOthersIsTrue (B.meaning book.now) unknown found.items) }
+    ensures others_are_held { IfOk result (λ found. OthersAreHeld (B.meaning book.now) unknown found.items) }
+    ensures others_are_listed { IfOk result (λ found. OthersAreListed (B.meaning book.now) unknown found.items) }
+    ensures others_stand { IfOk result (λ found. OthersStand (B.meaning book.now) unknown found.items) }
+    ensures other_wildcards_stand { IfOk result (λ found. OtherWildcardsStand (B.meaning book.now) unknown found.items) }
 {
     let lengths = Lengths::new(alloc, book, sender_of(unknown))?;
     let reached = Reached::of(alloc, &lengths)?;

@@ -5,7 +5,7 @@ ghost use Rattle.std.specs.List.{filter_map};
 ghost use Rattle.dia_book.specs.Dictionary.{definitions};
 ghost use Rattle.dia_breaking_levels.specs.LevelTests.{too_long};
 ghost use Rattle.dia_breaking_ways.specs.Walks.{IsWalk, plain_exits, plain_node};
-ghost use Rattle.dia_lint.specs.Ways.{AreAvpsReached, AreNoWays, AreOfSide, AreReachedBy, AreWays, IsReached, command_node, cost_of, entry_node};
+ghost use Rattle.dia_lint.specs.Ways.{AreAvpsReached, AreNoWays, AreOfSide, AreReachedBy, AreWays, HaveWays, IsReached, command_node, cost_of, entry_node};
 ghost use Rattle.dia_lint.specs.Ways.{exit_by, exits_of, graph_in, has_in, listed_in, nodes_of, side_of, start_of, way_in};
 ghost use Rattle.dia_valid.specs.Rules.{rules_in};
 
@@ -101,7 +101,8 @@ fn is_reached(walk: &Walk, place: usize) -> bool
 }
 
 fn ways_of(alloc: Global, walk: &Walk) -> Result<Vec<Option<u64>>, AllocError>
-    ensures { IfOk result (λ ways. AreWays walk.now.steps.items ways.items) }
+    ensures ways { IfOk result (λ ways. AreWays walk.now.steps.items ways.items) }
+    ensures each { IfOk result (λ ways. HaveWays (length walk.now.reached.items) walk.now.steps.items ways.items) }
 {
     let mut ways = no_ways(alloc, walk.reached.len())?;
     for step in &walk.steps {
@@ -113,7 +114,7 @@ fn ways_of(alloc: Global, walk: &Walk) -> Result<Vec<Option<u64>>, AllocError>
 }
 
 fn no_ways(alloc: Global, nodes: usize) -> Result<Vec<Option<u64>>, AllocError>
-    ensures { IfOk result (λ ways. AreNoWays ways.items) }
+    ensures { IfOk result (λ ways. AreNoWays nodes ways.items) }
 {
     let mut ways = Vec::new(alloc);
     for _ in 0..nodes {

@@ -1,12 +1,14 @@
-use Rattle.std.proofs.Common.{length, ap, subst, ◌∙◌}
+use Rattle.std.proofs.Common.{length, ap, subst, sym, ◌∙◌}
 use Rattle.dia_book.specs.Dictionary.{Dictionary, groups}
 use Rattle.dia_terms.specs.declared.Sends.{Sends}
 use Rattle.dia_lint.specs.Costs.{AreLengths, level_of, sender_of}
 use Rattle.dia_lint.specs.Gathered.{gathered}
-use Rattle.dia_lint.specs.Held.{NeverHeldIsTrue, NeverListedIsTrue, NeverStandsIsTrue, NoOthersIsTrue}
+use Rattle.dia_lint.specs.Exact.{NoLevelIsExact}
+use Rattle.dia_lint.specs.Held.{NeverHeldIsTrue, NeverListedIsTrue, NeverStandsIsTrue, NoOthersIsTrue, OthersAreHeld, OthersAreListed, OthersStand, OtherWildcardsStand}
 use Rattle.dia_lint.specs.WayLines.{command_part, group_part}
 use Rattle.dia_lint.specs.Ways.{side_of}
 use Rattle.dia_lint.proofs.ExactFindings.{AreReported, all_reported}
+use Rattle.dia_lint.proofs.FoundLevels.{other_wildcards_stand, others_are_held, others_are_listed, others_stand}
 use Rattle.dia_lint.proofs.FoundWays.{of_side}
 use Rattle.dia_lint.proofs.Reported.{commands_ascend, commands_exact, groups_ascend, groups_exact, others_have_avps, others_have_messages}
 use Rattle.dia_lint.proofs.WayTruths.{never_held, never_listed, never_stands, no_others, unreached}
@@ -40,16 +42,23 @@ returns g c =
     let all : AreReported d (sender_of c.args.unknown) lengths others found = both.0 in
     let sound = g.met.B.Book.sound made.book.now in
     let own = of_side s d (sender_of u) are book sends in
+    let exact = groups_exact d u lengths others found is are all.1 in
+    let levels = subst (λ (b : Dictionary). NoLevelIsExact b u found) (sym book) exact in
+    let walked = c.in_ok-reached.ensures in
     record {
       rules = all.2;
       no_message = commands_exact d u lengths others found is are all.0;
-      no_level = groups_exact d u lengths others found is are all.1;
+      no_level = exact;
       others_have_messages = others_have_messages d u lengths others found is are all.0;
       others_have_avps = others_have_avps d u lengths others found is are all.1;
       messages_once = commands_ascend (level_of d (sender_of c.args.unknown) lengths others) (length (groups d)) (length d.commands) found all.0;
       levels_once = groups_ascend d lengths (length d.entries) found all.1;
-      never_held = subst (λ (b : Dictionary). NeverHeldIsTrue b u found) book (never_held u s sound own reached c.in_ok-reached.ensures sends last.ways found both.1 last.are);
-      never_listed = subst (λ (b : Dictionary). NeverListedIsTrue b found) book (never_listed u s sound own reached c.in_ok-reached.ensures sends last.ways found both.1 last.are);
-      never_stands = subst (λ (b : Dictionary). NeverStandsIsTrue b u found) book (never_stands u s sound own reached c.in_ok-reached.ensures sends last.ways found both.1 last.are);
-      no_others = subst (λ (b : Dictionary). NoOthersIsTrue b u found) book (no_others u s sound own reached c.in_ok-reached.ensures sends last.ways found both.1 last.are);
+      never_held = subst (λ (b : Dictionary). NeverHeldIsTrue b u found) book (never_held u s sound own reached walked sends last.ways found both.1 last.are);
+      never_listed = subst (λ (b : Dictionary). NeverListedIsTrue b found) book (never_listed u s sound own reached walked sends last.ways found both.1 last.are);
+      never_stands = subst (λ (b : Dictionary). NeverStandsIsTrue b u found) book (never_stands u s sound own reached walked sends last.ways found both.1 last.are);
+      no_others = subst (λ (b : Dictionary). NoOthersIsTrue b u found) book (no_others u s sound own reached walked sends last.ways found both.1 last.are);
+      others_are_held = subst (λ (b : Dictionary). OthersAreHeld b u found) book (others_are_held u s sound own reached walked sends last.ways found both.1 last.are levels);
+      others_are_listed = subst (λ (b : Dictionary). OthersAreListed b u found) book (others_are_listed u s sound own reached walked sends last.ways found both.1 last.are);
+      others_stand = subst (λ (b : Dictionary). OthersStand b u found) book (others_stand u s sound own reached walked sends last.ways found both.1 last.are);
+      other_wildcards_stand = subst (λ (b : Dictionary). OtherWildcardsStand b u found) book (other_wildcards_stand u s sound own reached walked sends last.ways found both.1 last.are);
     }
