@@ -16,9 +16,12 @@ pub mod LevelsOfParts
 pub mod MadeAvps
 pub mod MadeLevels
 pub mod Messages
+pub mod NormalParts
+pub mod NormalSets
 pub mod Places
 pub mod Reported
 pub mod RulesThatSayNothing
+pub mod SameCommands
 pub mod SameLevels
 pub mod SameMessages
 pub mod SameParts

@@ -28,7 +28,7 @@ listed_too xs ys key among h =
     let (t, it, same, within) = among r (contains_in xs r ir) in
     is_listed_by ys key t (in_contains ys t it) (sym same ∙ e)
 
-same_test : (a b : Bool) → (a ≡ true → b ≡ true) → (b ≡ true → a ≡ true) → a ≡ b
+pub same_test : (a b : Bool) → (a ≡ true → b ≡ true) → (b ≡ true → a ≡ true) → a ≡ b
 same_test true b to from = sym (to refl)
 same_test false b to from = sym (false_from_ne_true b (λ h. differ false (from h) refl))
 

@@ -47,7 +47,7 @@ same_bounds r s h k to back = λ i. (least i, most i)
         (λ m le within. (to m (le, within)).1)
         (λ m le within. (back m (subst (λ (n : ℕ). n ≤ m) least le, within)).1)
 
-fixed_kind : (r : DRule) → is_fixed r ≡ true → r.kind ≡ Fixed
+pub fixed_kind : (r : DRule) → is_fixed r ≡ true → r.kind ≡ Fixed
 fixed_kind r = by r.kind
   where
     by : (k : RuleKind) → (elim k [ Fixed ↦ true | Required ↦ false | Optional ↦ false ]) ≡ true → k ≡ Fixed

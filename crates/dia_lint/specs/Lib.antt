@@ -9,9 +9,11 @@ pub mod GuidelineLines
 pub mod Guidelines
 pub mod Held
 pub mod LevelParts
+pub mod NormalForms
 pub mod Overlaps
 pub mod OwnRules
 pub mod Pairs
+pub mod SameCommands
 pub mod SameVerdicts
 pub mod TwiceListed
 pub mod WayLines

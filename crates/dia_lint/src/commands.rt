@@ -2,48 +2,17 @@
 ghost use Rattle.std.specs.Prelude.{◌≡◌, ◌<◌, ◌+◌, ◌^◌, IfOk, IfSome, Contains, length};
 ghost use Rattle.std.specs.List.Sorted.{IsNonDecreasing};
 ghost use Rattle.dia_book.specs.Dictionary.{definitions, groups, selected};
-ghost use Rattle.dia_lint.specs.Pairs.{IsUnnamed, app_in, app_of, command_for};
+ghost use Rattle.dia_lint.specs.Pairs.{IsUnnamed, app_in, app_of, command_for, same_p};
 
 use crate::books::command_at;
 use dia_book::{Book, Class, DefHead, DefId, Pxy};
 use std::alloc::{AllocError, Global};
-
-/// A command that isn't for errors.
-#[derive(Clone, Copy)]
-pub(crate) struct Command {
-    pub def: DefId,
-    pub code: u32,
-    pub class: Class,
-    pub app: Option<u32>,
-    pub p: Pxy,
-}
 
 /// A request.
 #[derive(Clone, Copy)]
 pub(crate) struct Request {
     pub def: DefId,
     pub p: Pxy,
-}
-
-/// The command of this definition, unless it is for errors.
-pub(crate) fn command_of<B: Book>(book: &B, def: DefId) -> Option<Command>
-    requires { def < length (definitions (B.meaning book.now)) }
-{
-    match book.def(def).head {
-        DefHead::Command {
-            code,
-            class,
-            app,
-            p,
-        } => Some(Command {
-            def,
-            code,
-            class,
-            app,
-            p,
-        }),
-        DefHead::Group(_) | DefHead::Error { .. } => None,
-    }
 }
 
 /// An Application-ID that no command is for.
@@ -117,4 +86,10 @@ pub(crate) fn select<B: Book>(book: &B, code: u32, class: Class, app: u32) -> Op
     ensures selected { result ≡ selected (B.meaning book.now) code class app }
 {
     book.select(code, class, app)
+}
+
+pub(crate) fn is_same_p(one: Pxy, other: Pxy) -> bool
+    ensures { result ≡ same_p one other }
+{
+    one == other
 }

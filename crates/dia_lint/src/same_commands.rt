@@ -1,35 +1,44 @@
 //! Commands of an application that say nothing beside the one without application.
-ghost use Rattle.std.specs.Prelude.{◌<◌, IfOk, IfSome, length};
+ghost use Rattle.std.specs.Prelude.{◌≡◌, ◌<◌, IfOk, IfSome, length};
 ghost use Rattle.dia_book.specs.Dictionary.{definitions};
 ghost use Rattle.dia_lint.specs.Exact.{AreOf};
+ghost use Rattle.dia_lint.specs.Pairs.{IsUnnamed};
+ghost use Rattle.dia_lint.specs.SameCommands.{AreSameCommands, IsSameAs, beside, beside_head, general_with, is_general, same_finding};
 
-use crate::books::command_at;
-use crate::commands::{Command, command_of, select, unnamed_app};
+use crate::books::{command_at, rules_of};
+use crate::commands::{is_same_p, selected, unnamed_app};
 use crate::detail::Detail;
-use crate::finding::{Finding, Place, Subject};
-use crate::normal::Normal;
+use crate::finding::{Finding, push};
+use crate::guidelines::at_head;
+use crate::normal::are_alike;
 use crate::rule::Rule;
-use dia_book::{Book, DefId};
+use dia_book::{Book, Class, DefHead, DefId, Pxy};
 use std::alloc::{AllocError, Global};
 
-/// The commands with an application whose levels are those of the command of the same code, class and P flag without one.
+/// The commands with an application whose levels are those of the command of the same code, class and P flag without one, in the
+/// dictionary's order.
 pub fn command_findings<B: Book>(alloc: Global, book: &B) -> Result<Vec<Finding>, AllocError>
-    ensures { IfOk result (λ found. AreOf Rule.SameCommand found.items) }
+    ensures rules { IfOk result (λ found. AreOf Rule.SameCommand found.items) }
+    ensures same_commands { IfOk result (λ found.
+        AreSameCommands (B.meaning book.now) (length (B.meaning book.now).commands) found.items) }
 {
     let unnamed = unnamed_app(alloc, book)?;
     let mut found = Vec::new(alloc);
     for index in 0..book.commands() {
         let def = command_at(book, index);
-        if let Some(other) = same_command(alloc, book, def, unnamed)? {
-            found.push(Finding {
-                rule: Rule::SameCommand,
-                place: Place::Head(def),
-                subject: Subject::Definition(def),
-                detail: Detail::As(other),
-            })?;
-        }
+        let other = same_command(alloc, book, def, unnamed)?;
+        push(&mut found, same_finding(def, other))?;
     }
     Ok(found)
+}
+
+fn same_finding(def: DefId, other: Option<DefId>) -> Option<Finding>
+    ensures { result ≡ same_finding def other }
+{
+    match other {
+        Some(other) => Some(at_head(def, Rule::SameCommand, Detail::As(other))),
+        None => None,
+    }
 }
 
 /// The command without application that has the levels of this command, if this one has an application.
@@ -39,43 +48,65 @@ fn same_command<B: Book>(
     def: DefId,
     unnamed: u32,
 ) -> Result<Option<DefId>, AllocError>
-    requires { def < length (definitions (B.meaning book.now)) }
+    requires within { def < length (definitions (B.meaning book.now)) }
+    requires unnamed { IsUnnamed (B.meaning book.now) unnamed }
+    ensures { IfOk result (IsSameAs (B.meaning book.now) def) }
 {
-    let Some(other) = other_command(book, def, unnamed) else {
-        return Ok(None);
-    };
-    let own = Normal::of(alloc, &book.def(def).rules)?;
-    let theirs = Normal::of(alloc, &book.def(other).rules)?;
-    if own == theirs {
-        Ok(Some(other))
-    } else {
-        Ok(None)
+    match beside(book, def, unnamed) {
+        Some(other) => {
+            if are_alike(alloc, rules_of(book, def), rules_of(book, other))? {
+                Ok(Some(other))
+            } else {
+                Ok(None)
+            }
+        }
+        None => Ok(None),
     }
 }
 
 /// The command of the same code, class and P flag without application, if this one has an application.
-fn other_command<B: Book>(book: &B, def: DefId, unnamed: u32) -> Option<DefId>
-    requires { def < length (definitions (B.meaning book.now)) }
+fn beside<B: Book>(book: &B, def: DefId, unnamed: u32) -> Option<DefId>
+    requires within { def < length (definitions (B.meaning book.now)) }
+    requires unnamed { IsUnnamed (B.meaning book.now) unnamed }
     ensures within { IfSome result (λ def. def < length (definitions (B.meaning book.now))) }
+    ensures beside { result ≡ beside (B.meaning book.now) def }
 {
-    let command = command_of(book, def)?;
-    if command.app.is_none() {
-        return None;
+    match book.def(def).head {
+        DefHead::Group(_) => None,
+        DefHead::Command {
+            code,
+            class,
+            app,
+            p,
+        } => {
+            app?;
+            general_with(book, code, class, p, unnamed)
+        }
+        DefHead::Error { .. } => None,
     }
-    let other = select(book, command.code, command.class, unnamed)?;
-    if is_general(book, other, &command) {
+}
+
+/// The command of this code, class and P flag without application.
+fn general_with<B: Book>(book: &B, code: u32, class: Class, p: Pxy, unnamed: u32) -> Option<DefId>
+    requires { IsUnnamed (B.meaning book.now) unnamed }
+    ensures within { IfSome result (λ def. def < length (definitions (B.meaning book.now))) }
+    ensures general { result ≡ general_with (B.meaning book.now) code class p }
+{
+    let other = selected(book, code, class, None, unnamed)?;
+    if is_general(p, &book.def(other).head) {
         Some(other)
     } else {
         None
     }
 }
 
-/// Whether the definition has no application, and the P flag of the command.
-fn is_general<B: Book>(book: &B, other: DefId, command: &Command) -> bool
-    requires { other < length (definitions (B.meaning book.now)) }
+/// Whether the head has no application, and this P flag.
+fn is_general(p: Pxy, head: &DefHead) -> bool
+    ensures { result ≡ is_general p head.now }
 {
-    match command_of(book, other) {
-        Some(other) => other.app.is_none() && other.p == command.p,
-        None => false,
+    match *head {
+        DefHead::Group(_) => false,
+        DefHead::Command { app, p: own, .. } => app.is_none() && is_same_p(own, p),
+        DefHead::Error { .. } => false,
     }
 }

@@ -19,6 +19,7 @@ use Rattle.dia_refused_json.specs.Refusals.{bad_input_json, text_of}
 use Rattle.dia_lint.specs.Exact.{AreAscending, AreOf, AreOfMessages, IsNumbered, NoLevelIsExact, NoMessageIsExact, OthersHaveAvps, OthersHaveMessages, is_no_level, is_no_message, reported}
 use Rattle.dia_lint.specs.GuidelineLines.{guideline_lines}
 use Rattle.dia_lint.specs.OwnRules.{says_nothing_lines}
+use Rattle.dia_lint.specs.SameCommands.{AreSameCommands}
 use Rattle.dia_lint.specs.TwiceListed.{AreTwiceListed}
 use Rattle.dia_lint.specs.declared.finding.Finding.{Finding}
 use Rattle.dia_lint.specs.declared.rule.Rule.TheVariants as rule
@@ -36,6 +37,7 @@ pub record AreOthers (d : Dictionary) (found : List Finding) : Type 0 where
   pub ranges : List Finding
   pub all : found ≡ ((same_commands ++ ranges) ++ says_nothing_lines d) ++ guideline_lines d
   pub of_commands : AreOf rule.SameCommand same_commands
+  pub same_command : AreSameCommands d (length d.commands) same_commands
   pub of_ranges : AreOf rule.TwiceListed ranges
   pub twice_listed : AreTwiceListed d (length d.entries) ranges
 

@@ -5,11 +5,10 @@ ghost use Rattle.std.specs.Option.{option_map_or};
 ghost use Rattle.dia_book.specs.Dictionary.{definitions, groups};
 ghost use Rattle.dia_lint.specs.Firsts.{AreFirstOf, put_at};
 ghost use Rattle.dia_lint.specs.Pairs.{IsUnnamed, answer_to, counts, first_request, is_any, is_unlike, request_if, request_in};
-ghost use Rattle.dia_lint.specs.Pairs.{same_p};
 
 use crate::base_avps::BaseAvp;
 use crate::books::command_at;
-use crate::commands::{Request, selected, unnamed_app};
+use crate::commands::{Request, is_same_p, selected, unnamed_app};
 use crate::definitions::lists;
 use crate::guidelines::{Head, command_head};
 use dia_book::{Book, Class, DRule, DefId, Pxy};
@@ -201,10 +200,4 @@ fn is_unlike<B: Book>(book: &B, def: DefId, p: Pxy) -> bool
         Some(head) => !is_same_p(head.p, p),
         None => false,
     }
-}
-
-pub(super) fn is_same_p(one: Pxy, other: Pxy) -> bool
-    ensures { result ≡ same_p one other }
-{
-    one == other
 }

@@ -12,11 +12,11 @@ ghost use Rattle.dia_lint.specs.Pairs.{request_in, request_pairs, selector, sess
 
 use crate::base_avps::BaseAvp;
 use crate::books::command_at;
-use crate::commands::Request;
+use crate::commands::{Request, is_same_p};
 use crate::definitions::lists;
 use crate::detail::Detail;
 use crate::finding::{Finding, push};
-use crate::guidelines::firsts::{Firsts, answer_to, first_of, is_same_p, request_if};
+use crate::guidelines::firsts::{Firsts, answer_to, first_of, request_if};
 use crate::guidelines::{Head, at_head, at_rule, command_head, only_if};
 use crate::rule::Rule;
 use dia_book::{Book, Class, DRule, DefId, Pxy};

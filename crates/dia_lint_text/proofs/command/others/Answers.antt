@@ -15,7 +15,8 @@ returns g c =
       all = all_others same ranges (says_nothing_lines d) (guideline_lines d) _ _ _ _ _ _
           (c.in_ok-extend_from_slice.ensures.items) (c.in_ok-extend_from_slice-2.ensures.items) (c.in_ok-extend_from_slice-3.ensures.items)
           c.deref.ensures.value (c.deref-2.ensures.value ∙ c.in_ok-own_rules.ensures) (c.deref-3.ensures.value ∙ c.in_ok-guidelines.ensures);
-      of_commands = c.in_ok-all.ensures;
+      of_commands = c.in_ok-all.ensures.rules;
+      same_command = c.in_ok-all.ensures.same_commands;
       of_ranges = c.in_ok-ranges.ensures.rules;
       twice_listed = c.in_ok-ranges.ensures.twice_listed;
     }
