@@ -2,3 +2,8 @@ pub mod Lists
 pub mod Sets
 pub mod CauseLaws
 pub mod Tallies
+mod Forms
+mod LineParts
+mod OnceEnds
+mod LineLaws
+mod CountedLines

@@ -1,13 +1,15 @@
 -- The lines of a list, one after another.
-use Rattle.std.proofs.Common.{◌≡◌, ℕ, zero, suc, ◌+◌, ◌<◌, ◌≤◌, Bool, true, false, cond, List, [], ◌∷◌, ◌++◌, length, map, take, get_or, Option, Some, None, refl, sym, ap, ◌∙◌, append_assoc, arith}
-use Rattle.std.specs.Prelude.{nat_lt, slice_get, string_bytes}
-use Rattle.std.specs.Option.{option_or}
-use Rattle.std.proofs.lemmas.List.{append-nil, map-append}
+use Rattle.std.proofs.Common.{◌≡◌, inl, inr, ℕ, zero, suc, ◌+◌, ◌<◌, ◌≤◌, true, false, List, [], ◌∷◌, ◌++◌, length, map, take}
+use Rattle.std.proofs.Common.{drop, get_or, Some, None, refl, sym, ap, subst, ◌∙◌, append_assoc, arith}
+use Rattle.std.specs.Prelude.{slice_get, string_bytes}
+use Rattle.std.specs.Str.Lines.{lines}
+use Rattle.std.proofs.lemmas.List.{map-append}
 use Rattle.dia_accepted.specs.declared.list.Entry.{Entry}
 use Rattle.dia_accepted.specs.declared.list.ListFault.{ListFault}
-use Rattle.dia_accepted.specs.declared.list.ListFault.TheVariants.{Limit}
-use Rattle.dia_accepted.specs.Accepted.{PlainEntry, entry, plain_entry, entries_by, entries_from, fault_from, form_fault, line_fault, max_lines}
-use Rattle.dia_accepted.specs.Words.{counted, entry_text, entry_words, is_skipped}
+use Rattle.dia_accepted.specs.declared.list.ListFault.TheVariants.{Limit, NoMemory, Syntax}
+use Rattle.dia_accepted.specs.Accepted.{AreEntries, AreEntriesFrom, HasEntries, IsLineFault, IsListFault, PlainEntry, entry}
+use Rattle.dia_accepted.specs.Accepted.{plain_entry, max_lines}
+use Rattle.dia_accepted.specs.Lines.{PlainLine, counted_of}
 
 pub line_at : (ts : List (List ℕ)) (i : ℕ) (words : List ℕ) → i < length ts → words ≡ get_or ts i words → slice_get ts i ≡ Some words
 line_at [] i words within is = absurd (omega arith)
@@ -23,89 +25,90 @@ taken ts k m words next at = ap (λ (n : ℕ). take n ts) next ∙ by ts k at
     by (t ∷ ts) zero e = let same : t ≡ words = (let f : Some t ≡ Some words = e in cc) in ap (λ (x : List ℕ). x ∷ []) same
     by (t ∷ ts) (suc k) e = ap (λ (xs : List (List ℕ)). t ∷ xs) (by ts k e)
 
+-- the line between those before it and those after it
+pub parted : (ts : List (List ℕ)) (k : ℕ) (words : List ℕ) → slice_get ts k ≡ Some words → ts ≡ take k ts ++ words ∷ drop (suc k) ts
+parted [] k words e = absurd (let z : None ≡ Some words = e in cc)
+parted (t ∷ ts) zero words e = let same : t ≡ words = (let f : Some t ≡ Some words = e in cc) in ap (λ (x : List ℕ). x ∷ ts) same
+parted (t ∷ ts) (suc k) words e = ap (λ (xs : List (List ℕ)). t ∷ xs) (parted ts k words e)
+
+pub taken_length : (ts : List (List ℕ)) (k : ℕ) (words : List ℕ) → slice_get ts k ≡ Some words → length (take k ts) ≡ k
+taken_length [] k words at = absurd (let z : None ≡ Some words = at in cc)
+taken_length (t ∷ ts) zero words at = refl
+taken_length (t ∷ ts) (suc k) words at = ap suc (taken_length ts k words at)
+
 -- ---- entries
 
-entries_more : (n : ℕ) (xs : List (List ℕ)) (words : List ℕ) → entries_from n (xs ++ words ∷ []) ≡ entries_from n xs ++ entries_by (n + length xs) words
-entries_more n [] words = append-nil (entries_by n words) ∙ ap (λ (k : ℕ). entries_by k words) (let e : n ≡ n + 0 = omega arith in e)
-entries_more n (x ∷ xs) words =
-    ap (λ (es : List PlainEntry). entries_by n x ++ es) (entries_more (n + 1) xs words)
-    ∙ ap (λ (k : ℕ). entries_by n x ++ (entries_from (n + 1) xs ++ entries_by k words)) (let e : n + 1 + length xs ≡ n + suc (length xs) = omega arith in e)
-    ∙ sym (append_assoc (entries_by n x) (entries_from (n + 1) xs) (entries_by (n + suc (length xs)) words))
+-- one line more
+entries_more : (n : ℕ) (xs : List (List ℕ)) (words : List ℕ) (old found : List PlainEntry) → AreEntriesFrom n xs old → HasEntries (n + length xs) words found → AreEntriesFrom n (xs ++ words ∷ []) (old ++ found)
+entries_more n [] words old found are here =
+    let same : n + 0 ≡ n = omega arith in
+    let joined : old ++ found ≡ found ++ [] = ap (λ (es : List PlainEntry). es ++ found) are ∙ sym (nil found) in
+    (found, [], joined, subst (λ (k : ℕ). HasEntries k words found) same here, refl)
+  where
+    nil : (es : List PlainEntry) → es ++ [] ≡ es
+    nil [] = refl
+    nil (e ∷ es) = ap (λ (xs : List PlainEntry). e ∷ xs) (nil es)
+entries_more n (x ∷ xs) words old found are here =
+    let same : n + suc (length xs) ≡ n + 1 + length xs = omega arith in
+    let joined : old ++ found ≡ are.0 ++ (are.1 ++ found) = ap (λ (es : List PlainEntry). es ++ found) are.2 ∙ append_assoc are.0 are.1 found in
+    (are.0, are.1 ++ found, joined, are.3, entries_more (n + 1) xs words are.1 found are.4 (subst (λ (k : ℕ). HasEntries k words found) same here))
 
 -- one entry more
-pub entry_pushed : (old new : List Entry) (made : Entry) (n : ℕ) (words : List ℕ) → new ≡ old ++ made ∷ [] → made.line ≡ n → string_bytes made.words ≡ words
-    → made.counted.items ≡ counted (entry_words words) → map plain_entry new ≡ map plain_entry old ++ entry n words ∷ []
-entry_pushed old new made n words pushed line_is words_are counted_is =
+pub entry_pushed : (old new : List Entry) (made : Entry) (n : ℕ) (words : List ℕ) (line : PlainLine) → new ≡ old ++ made ∷ [] → made.line ≡ n → string_bytes made.words ≡ words
+    → made.counted.items ≡ counted_of line → map plain_entry new ≡ map plain_entry old ++ entry n words line ∷ []
+entry_pushed old new made n words line pushed line_is words_are counted_is =
     ap (map plain_entry) pushed ∙ map-append plain_entry old (made ∷ [])
     ∙ (λ i. let e : PlainEntry = record { line = line_is i; words = words_are i; counted = counted_is i } in map plain_entry old ++ e ∷ [])
-
--- ---- faults
-
-or_none : (a b : Option ListFault) → option_or a b ≡ None → (a ≡ None) × (b ≡ None)
-or_none None b e = (refl, e)
-or_none (Some f) b e = absurd (let z : Some f ≡ None = e in cc)
-
-no_faults : (n : ℕ) (xs : List (List ℕ)) (words : List ℕ) → fault_from n xs ≡ None → line_fault (n + length xs) words ≡ None → fault_from n (xs ++ words ∷ []) ≡ None
-no_faults n [] words none here =
-    let same : n ≡ n + 0 = omega arith in
-    ap (λ (o : Option ListFault). option_or o None) (ap (λ (k : ℕ). line_fault k words) same ∙ here)
-no_faults n (x ∷ xs) words none here =
-    let both = or_none (line_fault n x) (fault_from (n + 1) xs) none in
-    let same : n + 1 + length xs ≡ n + suc (length xs) = omega arith in
-    let rest = no_faults (n + 1) xs words both.1 (ap (λ (k : ℕ). line_fault k words) same ∙ here) in
-    ap (λ (o : Option ListFault). option_or o (fault_from (n + 1) (xs ++ words ∷ []))) both.0 ∙ rest
-
--- the first line that has a fault
-first_fault : (n : ℕ) (ts : List (List ℕ)) (k : ℕ) (words : List ℕ) (fault : ListFault) → slice_get ts k ≡ Some words → fault_from n (take k ts) ≡ None → line_fault (n + k) words ≡ Some fault
-    → fault_from n ts ≡ Some fault
-first_fault n [] k words fault at none here = absurd (let z : None ≡ Some words = at in cc)
-first_fault n (t ∷ ts) zero words fault at none here =
-    let same : t ≡ words = (let f : Some t ≡ Some words = at in cc) in
-    let index : n ≡ n + 0 = omega arith in
-    ap (λ (o : Option ListFault). option_or o (fault_from (n + 1) ts)) (ap (line_fault n) same ∙ ap (λ (m : ℕ). line_fault m words) index ∙ here)
-first_fault n (t ∷ ts) (suc k) words fault at none here =
-    let both = or_none (line_fault n t) (fault_from (n + 1) (take k ts)) none in
-    let index : n + 1 + k ≡ n + suc k = omega arith in
-    ap (λ (o : Option ListFault). option_or o (fault_from (n + 1) ts)) both.0
-    ∙ first_fault (n + 1) ts k words fault at both.1 (ap (λ (m : ℕ). line_fault m words) index ∙ here)
-
--- a line without fault is within the limit
-within_limit : (n : ℕ) (words : List ℕ) → line_fault n words ≡ None → n ≤ max_lines
-within_limit n words none = by (nat_lt max_lines n) refl none
-  where
-    by : (b : Bool) → nat_lt max_lines n ≡ b → cond b (Some (Limit n)) (cond (is_skipped words) None (form_fault n (entry_text words))) ≡ None → n ≤ max_lines
-    by true e f = absurd (let z : Some (Limit n) ≡ None = f in cc)
-    by false e f = grind arith
 
 -- ---- what is known of the lines that were read
 
 pub record AreRead (ts : List (List ℕ)) (k line : ℕ) (entries : List PlainEntry) : Type 0 where
   pub line_is : line ≡ k
   pub within : line ≤ max_lines
-  pub entries_are : entries ≡ entries_from 1 (take k ts)
-  pub none : fault_from 1 (take k ts) ≡ None
-
-taken_length : (ts : List (List ℕ)) (k : ℕ) (words : List ℕ) → slice_get ts k ≡ Some words → length (take k ts) ≡ k
-taken_length [] k words at = absurd (let z : None ≡ Some words = at in cc)
-taken_length (t ∷ ts) zero words at = refl
-taken_length (t ∷ ts) (suc k) words at = ap suc (taken_length ts k words at)
+  pub entries_are : AreEntriesFrom 1 (take k ts) entries
 
 pub read_more : (ts : List (List ℕ)) (k m line next : ℕ) (words : List ℕ) (old new : List PlainEntry) → m ≡ suc k → next ≡ line + 1 → slice_get ts k ≡ Some words → AreRead ts k line old
-    → new ≡ old ++ entries_by next words → line_fault next words ≡ None → AreRead ts m next new
-read_more ts k m line next words old new is_next counted at before added none =
+    → (found : List PlainEntry) × HasEntries next words found × (new ≡ old ++ found) → AreRead ts m next new
+read_more ts k m line next words old new is_next counted at before added =
     let number : next ≡ 1 + length (take k ts) = (let l = taken_length ts k words at in omega (arith, before.line_is, counted, l)) in
-    let here : line_fault (1 + length (take k ts)) words ≡ None = ap (λ (n : ℕ). line_fault n words) (sym number) ∙ none in
-    let more = taken ts k m words is_next at in
+    let here = subst (λ (n : ℕ). HasEntries n words added.0) number added.1 in
+    let more = entries_more 1 (take k ts) words old added.0 before.entries_are here in
     record {
       line_is = omega (arith, before.line_is, counted, is_next);
-      within = within_limit next words none;
-      entries_are = added ∙ ap (λ (es : List PlainEntry). es ++ entries_by next words) before.entries_are ∙ ap (λ (n : ℕ). entries_from 1 (take k ts) ++ entries_by n words) number
-          ∙ sym (entries_more 1 (take k ts) words) ∙ ap (entries_from 1) (sym more);
-      none = ap (fault_from 1) more ∙ no_faults 1 (take k ts) words before.none here;
+      within = added.1.0;
+      entries_are = subst (AreEntriesFrom 1 (take m ts)) (sym added.2)
+          (subst (λ (xs : List (List ℕ)). AreEntriesFrom 1 xs (old ++ added.0)) (sym (taken ts k m words is_next at)) more);
     }
 
-pub read_fault : (ts : List (List ℕ)) (k line next : ℕ) (words : List ℕ) (old : List PlainEntry) (fault : ListFault) → next ≡ line + 1 → slice_get ts k ≡ Some words → AreRead ts k line old
-    → line_fault next words ≡ Some fault → fault_from 1 ts ≡ Some fault
-read_fault ts k line next words old fault counted at before here =
-    let number : next ≡ 1 + k = omega (arith, before.line_is, counted) in
-    first_fault 1 ts k words fault at before.none (ap (λ (n : ℕ). line_fault n words) (sym number) ∙ here)
+-- ---- faults
+
+pub read_fault : (text : List ℕ) (k line next : ℕ) (words : List ℕ) (old : List PlainEntry) (fault : ListFault) → next ≡ line + 1 → slice_get (lines text) k ≡ Some words → AreRead (lines text) k line old
+    → IsLineFault next words fault → IsListFault text fault
+read_fault text k line next words old fault counted at before here =
+    let ts = lines text in
+    let number : next ≡ 1 + length (take k ts) = (let l = taken_length ts k words at in omega (arith, before.line_is, counted, l)) in
+    (take k ts, words, drop (suc k) ts, old, parted ts k words at, before.entries_are, subst (λ (n : ℕ). IsLineFault n words fault) number here)
+
+-- a line with entries has no fault
+no_line_fault : (n : ℕ) (words : List ℕ) (found : List PlainEntry) (fault : ListFault) → HasEntries n words found → IsLineFault n words fault → ⊥
+no_line_fault n words found (Limit k) has is = omega (arith, has.0, is.1)
+no_line_fault n words found NoMemory has is = is
+no_line_fault n words found (Syntax k at) has is = elim has.1 [
+  | inl none ↦ (let e : true ≡ false = sym none.0 ∙ is.2 in cc)
+  | inr some ↦ is.3.none some.0 some.2
+]
+
+entries_here : (n : ℕ) (before : List (List ℕ)) (words : List ℕ) (after : List (List ℕ)) (list : List PlainEntry) → AreEntriesFrom n (before ++ words ∷ after) list
+    → (found : List PlainEntry) × HasEntries (n + length before) words found
+entries_here n [] words after list are = let same : n ≡ n + 0 = omega arith in (are.0, subst (λ (k : ℕ). HasEntries k words are.0) same are.3)
+entries_here n (t ∷ ts) words after list are =
+    let same : n + 1 + length ts ≡ n + suc (length ts) = omega arith in
+    let here = entries_here (n + 1) ts words after are.1 are.4 in
+    (here.0, subst (λ (k : ℕ). HasEntries k words here.0) same here.1)
+
+-- a list has no fault
+pub no_list_fault : (text : List ℕ) (list : List PlainEntry) (fault : ListFault) → AreEntries text list → IsListFault text fault → ⊥
+no_list_fault text list fault are is =
+    let all = subst (λ (ts : List (List ℕ)). AreEntriesFrom 1 ts list) is.4 are in
+    let here = entries_here 1 is.0 is.1 is.2 list all in
+    no_line_fault (1 + length is.0) is.1 here.0 fault here.1 is.6

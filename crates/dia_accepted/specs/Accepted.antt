@@ -1,14 +1,15 @@
 -- A list of accepted lines: its text, the lines of an answer that it accepts, and the entries of its own that accept none.
-use Rattle.std.specs.Prelude.{ℕ, ◌+◌, nat_lt, ◌||◌, Bool, true, not, if◌then◌else◌, List, [], ◌∷◌, ◌++◌, map, filter, string_bytes, Option, Some, None}
+use Rattle.std.specs.Prelude.{◌≡◌, ℕ, ◌+◌, ◌<◌, ◌≤◌, ◌⊎◌, ◌||◌, Bool, true, false, not, if◌then◌else◌, List, [], ◌∷◌, ◌++◌}
+use Rattle.std.specs.Prelude.{length, filter, string_bytes}
 use Rattle.std.specs.List.{list_any}
-use Rattle.std.specs.Option.{option_or}
 use Rattle.std.specs.Str.{bytes_eq}
 use Rattle.std.specs.Str.Lines.{lines}
 use Rattle.dia_accepted.specs.declared.list.Entry.{Entry}
 use Rattle.dia_accepted.specs.declared.list.ListFault.{ListFault}
-use Rattle.dia_accepted.specs.declared.list.ListFault.TheVariants.{Syntax, Limit}
+use Rattle.dia_accepted.specs.declared.list.ListFault.TheVariants.{Syntax, Limit, NoMemory}
 use Rattle.dia_accepted.specs.declared.recorded.Recorded.{Recorded}
-use Rattle.dia_accepted.specs.Words.{anywhere, command_in, counted, entry_text, entry_words, fault_offset, has_form, has_once_form, is_skipped}
+use Rattle.dia_accepted.specs.Lines.{IsLine, IsMisfit, PlainLine, counted_of}
+use Rattle.dia_accepted.specs.Words.{anywhere, command_in, counted, entry_text, is_skipped}
 
 -- ---- the text of the list
 
@@ -26,36 +27,34 @@ pub record PlainEntry : Type 0 where
   pub words : List ℕ
   pub counted : List ℕ
 
-abbrev pub entry : ℕ → List ℕ → PlainEntry
-entry n words = record { line = n; words = words; counted = counted (entry_words words) }
+abbrev pub entry : ℕ → List ℕ → PlainLine → PlainEntry
+entry n words line = record { line = n; words = words; counted = counted_of line }
 
--- that of the line of this number, if it has one: a line may be empty, or a comment alone
-abbrev pub entries_by : ℕ → List ℕ → List PlainEntry
-entries_by n line = if is_skipped line then [] else entry n (entry_text line) ∷ []
+-- the line of this number has this entry; or none, where it is empty or a comment alone
+abbrev pub HasEntries : ℕ → List ℕ → List PlainEntry → Type 0
+HasEntries n text list = (n ≤ max_lines) × (((is_skipped text ≡ true) × (list ≡ []))
+    ⊎ ((line : PlainLine) × (is_skipped text ≡ false) × IsLine (entry_text text) line × (list ≡ entry n (entry_text text) line ∷ [])))
 
--- those of lines that are numbered from n on
-abbrev pub entries_from : ℕ → List (List ℕ) → List PlainEntry
-entries_from n [] = []
-entries_from n (words ∷ rest) = entries_by n words ++ entries_from (n + 1) rest
+-- the entries of lines that are numbered from n on
+abbrev pub AreEntriesFrom : ℕ → List (List ℕ) → List PlainEntry → Type 0
+AreEntriesFrom n [] list = list ≡ []
+AreEntriesFrom n (text ∷ texts) list = (first : List PlainEntry) × (others : List PlainEntry) × (list ≡ first ++ others)
+    × HasEntries n text first × AreEntriesFrom (n + 1) texts others
 
--- what is wrong with the words of an entry
-abbrev pub form_fault : ℕ → List ℕ → Option ListFault
-form_fault n words = if has_form words || has_once_form words then None else Some (Syntax n (fault_offset words))
+-- the text is a list with these entries
+abbrev pub AreEntries : List ℕ → List PlainEntry → Type 0
+AreEntries text list = AreEntriesFrom 1 (lines text) list
 
 -- what is wrong with the line of this number
-abbrev pub line_fault : ℕ → List ℕ → Option ListFault
-line_fault n line = if nat_lt max_lines n then Some (Limit n) else (if is_skipped line then None else form_fault n (entry_text line))
+abbrev pub IsLineFault : ℕ → List ℕ → ListFault → Type 0
+IsLineFault n text (Syntax line at) = (line ≡ n) × (n ≤ max_lines) × (is_skipped text ≡ false) × IsMisfit (entry_text text) at
+IsLineFault n text (Limit line) = (line ≡ n) × (max_lines < n)
+IsLineFault n text NoMemory = ⊥
 
--- the first fault of lines that are numbered from n on
-abbrev pub fault_from : ℕ → List (List ℕ) → Option ListFault
-fault_from n [] = None
-fault_from n (words ∷ rest) = option_or (line_fault n words) (fault_from (n + 1) rest)
-
-abbrev pub entries_of : List ℕ → List PlainEntry
-entries_of text = entries_from 1 (lines text)
-
-abbrev pub list_fault : List ℕ → Option ListFault
-list_fault text = fault_from 1 (lines text)
+-- what is wrong with the first line of the text that has a fault
+abbrev pub IsListFault : List ℕ → ListFault → Type 0
+IsListFault text fault = (before : List (List ℕ)) × (line : List ℕ) × (after : List (List ℕ)) × (list : List PlainEntry)
+    × (lines text ≡ before ++ line ∷ after) × AreEntriesFrom 1 before list × IsLineFault (1 + length before) line fault
 
 abbrev pub plain_entry : Entry → PlainEntry
 plain_entry e = record { line = e.line; words = string_bytes e.words; counted = e.counted.items }

@@ -1,5 +1,6 @@
 //! Which lines a list accepts, one by one, and which of its entries accept none.
-ghost use Rattle.std.specs.Prelude.{◌≡◌, ◌&&◌, ◌++◌, ◌∷◌, List, ℕ, [], IfOk, OnOk, Some, if◌then◌else◌, map, unwrap_or, true, false};
+ghost use Rattle.std.specs.Prelude.{◌≡◌, ◌&&◌, ◌++◌, ◌∷◌, List, ℕ, [], IfOk, OnOk, Some, if◌then◌else◌, map, unwrap_or, true};
+ghost use Rattle.std.specs.Prelude.{false};
 ghost use Rattle.std.specs.Str.{bytes_eq};
 ghost use Rattle.dia_accepted.specs.Accepted.{plain_entry};
 ghost use Rattle.dia_accepted.specs.Seen.{mark, unmarked};
@@ -40,9 +41,11 @@ impl<'l> Accepting<'l> {
 
     /// Whether the list accepts a line, which has come from now on.
     pub fn accepts(&mut self, alloc: Global, words: &str) -> Result<bool, AllocError>
-        ensures accepted { IfOk result (λ known. (list : List PlainEntry) (recorded : List PlainRecorded) → HasSeen self.old list recorded
+        ensures accepted { IfOk result (λ known. (list : List PlainEntry) (recorded : List PlainRecorded)
+            → HasSeen self.old list recorded
             → known ≡ list_any (accepts words.now) list) }
-        ensures come { OnOk result ((list : List PlainEntry) (recorded : List PlainRecorded) (t : PlainRecorded) → t.words ≡ words.now
+        ensures come { OnOk result ((list : List PlainEntry) (recorded : List PlainRecorded) (t : PlainRecorded)
+            → t.words ≡ words.now
             → HasSeen self.old list recorded → HasSeen self.new list (recorded ++ t ∷ [])) }
     {
         if self.list.is_empty() {

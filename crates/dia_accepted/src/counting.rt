@@ -35,7 +35,8 @@ impl Drop for Causes {
 }
 
 impl Causes {
-    ghost use Rattle.std.specs.Prelude.{◌≡◌, ◌<◌, ◌^◌, ◌+◌, ◌++◌, ◌∷◌, ◌⊎◌, List, ℕ, [], IfOk, OnOk, map, string_bytes, Bool, true, false};
+    ghost use Rattle.std.specs.Prelude.{◌≡◌, ◌<◌, ◌^◌, ◌+◌, ◌++◌, ◌∷◌, ◌⊎◌, List, ℕ, [], IfOk, OnOk, map, string_bytes, Bool};
+    ghost use Rattle.std.specs.Prelude.{true, false};
     ghost use Rattle.std.specs.List.{list_any};
     ghost use Rattle.dia_accepted.specs.Accepted.{PlainRecorded, plain_recorded};
     ghost use Rattle.dia_accepted.specs.Causes.{commands_with, has_cause, once_of};
@@ -55,7 +56,8 @@ impl Causes {
 
     /// Begins with the lines of a command. `forgets` says whether none of the commands so far comes again.
     pub fn begin(&mut self, forgets: bool)
-        ensures { (recorded : List PlainRecorded) (before command visits : ℕ) → (forgets ≡ true → list_any (is_command command) recorded ≡ false)
+        ensures { (recorded : List PlainRecorded) (before command visits : ℕ) → (forgets ≡ true
+            → list_any (is_command command) recorded ≡ false)
             → AreCauses forgets self.old recorded before visits → AreCauses forgets self.new recorded command (visits + 1) }
     {
         if forgets {
@@ -65,7 +67,8 @@ impl Causes {
 
     /// Whether a line has come with the cause of these words.
     pub fn has(&self, words: &str) -> bool
-        ensures { (forgets : Bool) (recorded : List PlainRecorded) (command visits : ℕ) → AreCauses forgets self.now recorded command visits
+        ensures { (forgets : Bool) (recorded : List PlainRecorded) (command visits : ℕ)
+            → AreCauses forgets self.now recorded command visits
             → result ≡ list_any (has_cause (cause_text words.now)) recorded }
     {
         self.counts.contains_key(cause_of(words).as_bytes())
@@ -82,7 +85,8 @@ impl Causes {
         ensures { OnOk result ((forgets : Bool) (recorded : List PlainRecorded) (t : PlainRecorded) (visits : ℕ) → visits < 2 ^ 63
             → t.command ≡ command → t.words ≡ words.now
             → (t.message ≡ string_bytes message) ⊎ (list_any (has_cause (cause_text words.now)) recorded ≡ true)
-            → AreCauses forgets self.old recorded command visits → AreCauses forgets self.new (recorded ++ t ∷ []) command visits) }
+            → AreCauses forgets self.old recorded command visits
+            → AreCauses forgets self.new (recorded ++ t ∷ []) command visits) }
     {
         let cause = cause_of(words).as_bytes();
         let known = self.counts.contains_key(cause);

@@ -1,11 +1,11 @@
 //! The text of a list of accepted lines.
-ghost use Rattle.std.specs.Prelude.{◌≡◌, ◌++◌, ◌∷◌, [], Err, IfErr, IfOk, None, OnOk, Some, map};
-ghost use Rattle.std.specs.Prelude.{◌≢◌};
-ghost use Rattle.dia_accepted.specs.Accepted.{entries_by, entries_of, entry, form_fault, line_fault, list_fault, plain_entry};
-ghost use Rattle.dia_accepted.specs.Words.{entry_text, is_skipped};
+ghost use Rattle.std.specs.Prelude.{◌≡◌, ◌≢◌, ◌++◌, ◌∷◌, [], IfErr, IfOk, List, OnOk, map};
+ghost use Rattle.dia_accepted.specs.Accepted.{AreEntries, HasEntries, IsLineFault, IsListFault, PlainEntry, entry, plain_entry};
+ghost use Rattle.dia_accepted.specs.Lines.{plain_line};
 
-use crate::entries::{counted_of_entry, entry_text, has_form, has_once_form};
-use crate::faults::fault_offset;
+use crate::entries::entry_text;
+use crate::line::AcceptedLine;
+use crate::reading::{Misfit, read_line};
 use std::alloc::{AllocError, Global};
 
 /// The most bytes of a list's text (our profile).
@@ -70,9 +70,8 @@ impl From<AllocError> for ListFault {
 /// `#`. A line may have no entry. It ends with a line feed, or with a carriage return and a line feed; the last line may do
 /// without. The fault is that of the first line that has one. `NoMemory` comes only where memory was refused.
 pub fn read_list(alloc: Global, text: &str) -> Result<Vec<Entry>, ListFault>
-    ensures entries { IfOk result (λ list. map plain_entry list.items ≡ entries_of text.now) }
-    ensures form { IfOk result (λ list. list_fault text.now ≡ None) }
-    ensures fault { IfErr result (λ fault. fault ≢ ListFault.NoMemory → list_fault text.now ≡ Some fault) }
+    ensures entries { IfOk result (λ list. AreEntries text.now (map plain_entry list.items)) }
+    ensures fault { IfErr result (λ fault. fault ≢ ListFault.NoMemory → IsListFault text.now fault) }
 {
     let mut list = Vec::new(alloc);
     let mut line = 0;
@@ -88,51 +87,20 @@ pub fn read_list(alloc: Global, text: &str) -> Result<Vec<Entry>, ListFault>
 
 /// Adds the entry of a line of the text, if it has one.
 fn add_line(alloc: Global, list: &mut Vec<Entry>, line: u32, text: &str) -> Result<(), ListFault>
-    ensures added { OnOk result (map plain_entry list.new.items ≡ map plain_entry list.old.items
-        ++ entries_by line text.now) }
-    ensures form { OnOk result (line_fault line text.now ≡ None) }
-    ensures fault { IfErr result (λ fault. fault ≢ ListFault.NoMemory → line_fault line text.now ≡ Some fault) }
-{
-    match line_fault(line, text) {
-        Some(fault) => return Err(fault),
-        None => {}
-    }
-    if is_skipped(text) {
-        return Ok(());
-    }
-    push_entry(alloc, list, line, entry_text(text))?;
-    Ok(())
-}
-
-/// What is wrong with a line.
-fn line_fault(line: u32, text: &str) -> Option<ListFault>
-    ensures { result ≡ line_fault line text.now }
+    ensures added { OnOk result ((entries : List PlainEntry) × HasEntries line text.now entries
+        × (map plain_entry list.new.items ≡ map plain_entry list.old.items ++ entries)) }
+    ensures fault { IfErr result (λ fault. fault ≢ ListFault.NoMemory → IsLineFault line text.now fault) }
 {
     if line > MAX_LINES {
-        Some(ListFault::Limit { line })
-    } else if is_skipped(text) {
-        None
-    } else {
-        form_fault(line, entry_text(text).as_bytes())
+        return Err(ListFault::Limit { line });
     }
-}
-
-/// Whether a line has no entry.
-fn is_skipped(line: &str) -> bool
-    ensures { result ≡ is_skipped line.now }
-{
-    entry_text(line).len() == 0
-}
-
-/// What is wrong with the words of an entry.
-fn form_fault(line: u32, words: &[u8]) -> Option<ListFault>
-    ensures { result ≡ form_fault line words.now }
-{
-    if has_form(words) || has_once_form(words) {
-        None
-    } else {
-        let at = fault_offset(words);
-        Some(ListFault::Syntax { line, at })
+    let words = entry_text(text);
+    if words.is_empty() {
+        return Ok(());
+    }
+    match read_line(words.as_bytes()) {
+        Ok(accepted) => Ok(push_entry(alloc, list, line, words, &accepted)?),
+        Err(Misfit { at }) => Err(ListFault::Syntax { line, at }),
     }
 }
 
@@ -141,11 +109,12 @@ fn push_entry(
     list: &mut Vec<Entry>,
     line: u32,
     words: &str,
+    accepted: &AcceptedLine<'_>,
 ) -> Result<(), AllocError>
     ensures { OnOk result (map plain_entry list.new.items ≡ map plain_entry list.old.items
-        ++ entry line words.now ∷ []) }
+        ++ entry line words.now (plain_line accepted.now) ∷ []) }
 {
-    let counted = counted_of_entry(alloc, words.as_bytes())?;
+    let counted = accepted.counted(alloc)?;
     let words = String::from_str(alloc, words)?;
     list.push(Entry {
         line,

@@ -3,7 +3,7 @@ ghost use Rattle.std.specs.Prelude.{◌≡◌, ◌≤◌, IfOk, drop, length, re
 ghost use Rattle.std.specs.List.{prefix_len};
 ghost use Rattle.dia_accepted.specs.Words.{anywhere, begins, cause_of, cause_text, command_in, command_of, counted};
 ghost use Rattle.dia_accepted.specs.Words.{has_level_reason, has_undecided_level, is_of_command, is_of_level};
-ghost use Rattle.dia_accepted.specs.Words.{is_of_name, is_of_path, last_of, path_of, scoped};
+ghost use Rattle.dia_accepted.specs.Words.{is_of_name, is_of_path, last_of, path_of, scope, scoped};
 
 use std::alloc::{AllocError, Global};
 
@@ -36,16 +36,24 @@ pub(crate) fn path_and_cause(words: &str) -> (&str, &str)
 fn scoped(alloc: Global, path: &[u8], cause: &[u8]) -> Result<Vec<u8>, AllocError>
     ensures { IfOk result (λ made. made.items ≡ scoped path.now cause.now) }
 {
-    let mut made = Vec::from_slice(alloc, command_of(path))?;
-    if is_of_level(cause) {
-        made.push(b'/')?;
-        made.extend_from_slice(last_of(path))?;
-    }
+    let mut made = scope(alloc, path, is_of_level(cause))?;
     made.extend_from_slice(cause)?;
     Ok(made)
 }
 
-pub(crate) fn cause_of(words: &[u8]) -> &[u8]
+/// What counts of a path: the command; for a break of a level also the last name.
+pub(crate) fn scope(alloc: Global, path: &[u8], is_of_level: bool) -> Result<Vec<u8>, AllocError>
+    ensures { IfOk result (λ made. made.items ≡ scope is_of_level path.now) }
+{
+    let mut made = Vec::from_slice(alloc, command_of(path))?;
+    if is_of_level {
+        made.push(b'/')?;
+        made.extend_from_slice(last_of(path))?;
+    }
+    Ok(made)
+}
+
+fn cause_of(words: &[u8]) -> &[u8]
     ensures { result.now ≡ cause_of words.now }
 {
     following(words, path_len(words))
@@ -58,7 +66,7 @@ pub(crate) fn command_in(text: &[u8]) -> &[u8]
     command_of(path_of(text))
 }
 
-pub(crate) fn path_of(words: &[u8]) -> &[u8]
+fn path_of(words: &[u8]) -> &[u8]
     ensures { result.now ≡ path_of words.now }
 {
     let (path, _) = words.split_at(path_len(words));
@@ -119,7 +127,7 @@ pub(crate) fn following(bytes: &[u8], count: usize) -> &[u8]
     }
 }
 
-pub(crate) fn path_len(words: &[u8]) -> usize
+fn path_len(words: &[u8]) -> usize
     ensures len { result ≡ prefix_len is_of_path words.now }
     ensures within { result ≤ length words.now }
 {

@@ -15,10 +15,12 @@ use Rattle.dia_io.specs.declared.Inputs.{Inputs}
 use Rattle.dia_io.specs.declared.Exit.{Exit}
 use Rattle.dia_io.specs.declared.Exit.TheVariants.{Yes, No, Bad}
 use Rattle.dia_io.specs.Inputs.{Holds, IsOver}
-use Rattle.dia_accepted.specs.Accepted.{PlainEntry, list_fault, max_list}
+use Rattle.dia_accepted.specs.Accepted.{AreEntries, IsListFault, PlainEntry, max_list}
+use Rattle.dia_accepted.proofs.Lists.{no_list_fault}
 use Rattle.dia_accepted.specs.declared.Entry.{Entry}
 use Rattle.dia_accepted.specs.declared.Recorded.{Recorded}
 use Rattle.dia_accepted.specs.declared.ListFault.{ListFault}
+use Rattle.dia_accepted.specs.declared.ListFault.TheVariants as faults
 use Rattle.dia_run.specs.Texts.{IsDictionaryText, line}
 use Rattle.dia_run.specs.Outcome.{ended, no_first, no_second}
 use Rattle.dia_run.proofs.OneInput.{one_dictionary, dictionary_or_not}
@@ -48,14 +50,14 @@ held_or_over : (input : Input) (most : ℕ) (text : List ℕ) → Holds input mo
 held_or_over (inputs.Bytes v) most text h over = let same = ap length h.0 in omega (arith, h.1, over, same)
 held_or_over inputs.TooLong most text h over = h
 
-no_fault : (text other : List ℕ) (fault : ListFault) → text ≡ other → list_fault text ≡ None → list_fault other ≡ Some fault → ⊥
-no_fault text other fault same none some = let e : None ≡ Some fault = sym none ∙ ap list_fault same ∙ some in cc
+no_fault : (text other : List ℕ) (list : List PlainEntry) (fault : ListFault) → text ≡ other → AreEntries text list → IsListFault other fault → ⊥
+no_fault text other list fault same are is = no_list_fault text list fault are (subst (λ (t : List ℕ). IsListFault t fault) (sym same) is)
 
 list_or_not : (input : Input) (list : List PlainEntry) (bad : BadList) → IsListText input list → IsNoListText input bad → ⊥
-list_or_not input list lists.TooLong (text, holds, utf8, none, is) over = held_or_over input max_list text holds over
-list_or_not input list (lists.NotText at) (text, holds, utf8, none, is) (other, held, not_utf8, there) = not_utf8 (subst IsUtf8 (same_held input max_list text other holds held) utf8)
-list_or_not input list (lists.Syntax n at) (text, holds, utf8, none, is) (other, held, also, fault) = no_fault text other _ (same_held input max_list text other holds held) none fault
-list_or_not input list (lists.Limit n) (text, holds, utf8, none, is) (other, held, also, fault) = no_fault text other _ (same_held input max_list text other holds held) none fault
+list_or_not input list lists.TooLong (text, holds, utf8, are) over = held_or_over input max_list text holds over
+list_or_not input list (lists.NotText at) (text, holds, utf8, are) (other, held, not_utf8, there) = not_utf8 (subst IsUtf8 (same_held input max_list text other holds held) utf8)
+list_or_not input list (lists.Syntax n at) (text, holds, utf8, are) (other, held, also, fault) = no_fault text other list (faults.Syntax n at) (same_held input max_list text other holds held) are fault
+list_or_not input list (lists.Limit n) (text, holds, utf8, are) (other, held, also, fault) = no_fault text other list (faults.Limit n) (same_held input max_list text other holds held) are fault
 
 -- ---- how much is left
 

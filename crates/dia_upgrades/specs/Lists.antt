@@ -1,8 +1,8 @@
 -- The list of accepted lines, as an input.
-use Rattle.std.specs.Prelude.{◌≡◌, ℕ, List, ◌++◌, codes, Some, None}
+use Rattle.std.specs.Prelude.{◌≡◌, ℕ, List, ◌++◌, codes}
 use Rattle.std.specs.Str.{IsUtf8}
 use Rattle.std.specs.Str.Lossy.{utf8_valid_len}
-use Rattle.dia_accepted.specs.Accepted.{PlainEntry, entries_of, list_fault, max_list}
+use Rattle.dia_accepted.specs.Accepted.{AreEntries, IsListFault, PlainEntry, max_list}
 use Rattle.dia_accepted.specs.declared.ListFault.{ListFault}
 use Rattle.dia_accepted.specs.declared.ListFault.TheVariants as faults
 use Rattle.dia_io.specs.declared.Input.{Input}
@@ -11,13 +11,13 @@ use Rattle.dia_report.specs.Refusals.{fault_at}
 use Rattle.dia_upgrades.specs.declared.list.BadList.{BadList}
 use Rattle.dia_upgrades.specs.declared.list.BadList.TheVariants.{TooLong, NotText, Syntax, Limit}
 
--- the input is the text of a list with these lines
+-- the input is the text of a list with these entries
 abbrev pub IsListText : Input → List PlainEntry → Type 0
-IsListText input list = (text : List ℕ) × Holds input max_list text × IsUtf8 text × (list_fault text ≡ None) × (list ≡ entries_of text)
+IsListText input list = (text : List ℕ) × Holds input max_list text × IsUtf8 text × AreEntries text list
 
 -- the input is a text with this fault
 abbrev pub HasFault : Input → ListFault → Type 0
-HasFault input fault = (text : List ℕ) × Holds input max_list text × IsUtf8 text × (list_fault text ≡ Some fault)
+HasFault input fault = (text : List ℕ) × Holds input max_list text × IsUtf8 text × IsListFault text fault
 
 -- the input is the text of no list, and this is why
 abbrev pub IsNoListText : Input → BadList → Type 0

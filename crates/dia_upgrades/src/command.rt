@@ -44,7 +44,8 @@ pub fn breaking<S: Sink>(
         × Appends (S.written sink.old) (S.written sink.new) text) }
     // Where it answers yes, nothing breaks, or nothing but what the list accepts, and it has written which; with `meaning`
     // nothing is read as another format, either, but for what the list accepts.
-    ensures yes { IfOk result (λ reported. reported.exit ≡ Exit.Yes → (recorded : List ℕ) × IsSafeUpgrade asked.entry inputs.now recorded
+    ensures yes { IfOk result (λ reported. reported.exit ≡ Exit.Yes
+        → (recorded : List ℕ) × IsSafeUpgrade asked.entry inputs.now recorded
         × Appends (S.written sink.old) (S.written sink.new) recorded) }
     // Where it answers no, it has written the lines that the list doesn't accept, and at least one.
     ensures no { IfOk result (λ reported. reported.exit ≡ Exit.No

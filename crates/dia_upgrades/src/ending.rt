@@ -9,7 +9,8 @@ ghost use Rattle.dia_accepted.specs.Accepted.{PlainRecorded, plain_entry};
 ghost use Rattle.dia_accepted.specs.Seen.{AreCauses};
 ghost use Rattle.dia_upgrades.specs.Stale.{failing};
 ghost use Rattle.dia_upgrades.specs.Rows.{cause_among, cause_with};
-ghost use Rattle.dia_upgrades.specs.UnderWay.{Ends, IsTextOfCauses, counts_in, end_text, exit_of, lines_end, nothing_said, plain_first};
+ghost use Rattle.dia_upgrades.specs.UnderWay.{Ends, IsTextOfCauses, counts_in, end_text, exit_of, lines_end, nothing_said};
+ghost use Rattle.dia_upgrades.specs.UnderWay.{plain_first};
 ghost use Rattle.dia_upgrades.specs.Writing.{Adds, cause_in, stale_text};
 
 use crate::asked::{Asked, Stale};
@@ -63,7 +64,8 @@ fn end_text<W: LineWriter>(
     fails: &[Entry],
 ) -> Result<String, AllocError>
     ensures { IfOk result (λ text. (causes : List ℕ) × IsTextOfCauses (W.writes writer.now) seen.now causes
-        × (string_bytes text ≡ end_text (W.writes writer.now) meaning seen.now.is_some causes counts (map plain_entry fails.now))) }
+        × (string_bytes text ≡ end_text (W.writes writer.now) meaning seen.now.is_some causes counts
+        (map plain_entry fails.now))) }
 {
     let causes = causes_text(alloc, writer, &seen.causes, seen.firsts.as_slice())?;
     let causes = causes.as_str();
@@ -125,7 +127,8 @@ fn causes_text<W: LineWriter>(
 ) -> Result<String, AllocError>
     ensures { IfOk result (λ text. (forgets : Bool) (recorded : List PlainRecorded) (command visits : ℕ)
         → AreCauses forgets causes.now recorded command visits
-        → string_bytes text ≡ flat_map (cause_in (W.writes writer.now)) (map (cause_among recorded) (map plain_first firsts.now))) }
+        → string_bytes text
+        ≡ flat_map (cause_in (W.writes writer.now)) (map (cause_among recorded) (map plain_first firsts.now))) }
 {
     let mut text = String::new(alloc);
     for first in firsts {
@@ -143,7 +146,8 @@ fn push_cause<W: LineWriter>(
     commands: usize,
     first: &First<'_>,
 ) -> Result<(), AllocError>
-    ensures { OnOk result (Adds text.old text.new (cause_in (W.writes writer.now) (cause_with commands (plain_first first.now)))) }
+    ensures { OnOk result (Adds text.old text.new
+        (cause_in (W.writes writer.now) (cause_with commands (plain_first first.now)))) }
 {
     let words = once_words(alloc, commands, first.words.as_str())?;
     let digits = digits_in(&first.digits);

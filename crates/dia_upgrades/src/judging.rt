@@ -30,7 +30,8 @@ use dia_io::{Input, RunFault, Sink};
 use std::alloc::{AllocError, Global};
 
 /// Writes a line for each way in which messages break, over two dictionaries that were read and the text of a list of accepted
-/// lines, as [`breaking`](crate::breaking) does, by a writer. The list is judged first, then the first dictionary's commands, then the names.
+/// lines, as [`breaking`](crate::breaking) does, by a writer. The list is judged first, then the first dictionary's commands,
+/// then the names.
 pub fn breaking_of<A: Book, B: Book, S: Sink, W: LineWriter>(
     alloc: Global,
     asked: Asked<'_>,
@@ -93,7 +94,8 @@ fn listed<A: Book, B: Book, S: Sink, W: LineWriter>(
 ) -> Result<BooksAnswer, RunFault>
     requires { ¬ IsTrue (S.has_failed sink.old) }
     ensures answers { (input : AnyInput) → IsListText input (map plain_entry list.now)
-        → Answers (W.writes writer.now) asked.entry input (A.meaning a.now) (B.meaning b.now) (S.written sink.old) (S.written sink.new) result }
+        → Answers (W.writes writer.now) asked.entry input (A.meaning a.now) (B.meaning b.now) (S.written sink.old)
+        (S.written sink.new) result }
     ensures device { (result ≡ Err Device) ↔ IsTrue (S.has_failed sink.new) }
 {
     if has_no_commands(a) {
@@ -130,7 +132,8 @@ fn compared<A: Book, B: Book, S: Sink, W: LineWriter>(
     requires places { All (λ place. place < length (A.meaning a.now).commands) commands.now }
     ensures answers { (input : AnyInput) → IsListText input (map plain_entry list.now) → CanAsk asked.entry (A.meaning a.now)
         → commands.now ≡ asked_places (A.meaning a.now) (names_of asked.entry)
-        → Answers (W.writes writer.now) asked.entry input (A.meaning a.now) (B.meaning b.now) (S.written sink.old) (S.written sink.new) result }
+        → Answers (W.writes writer.now) asked.entry input (A.meaning a.now) (B.meaning b.now) (S.written sink.old)
+        (S.written sink.new) result }
     ensures device { (result ≡ Err Device) ↔ IsTrue (S.has_failed sink.new) }
 {
     let upgrade = Upgrade::new(alloc, a, b, asked.sends, asked.unknown)?;
@@ -154,7 +157,8 @@ fn compared_by<A: Book, B: Book, S: Sink, W: LineWriter>(
     requires between { sides_of upgrade.now ≡ sides (A.meaning a.now) (B.meaning b.now) asked.sends asked.unknown }
     ensures answers { (input : AnyInput) → IsListText input (map plain_entry list.now) → CanAsk asked.entry (A.meaning a.now)
         → commands.now ≡ asked_places (A.meaning a.now) (names_of asked.entry)
-        → Answers (W.writes writer.now) asked.entry input (A.meaning a.now) (B.meaning b.now) (S.written sink.old) (S.written sink.new) result }
+        → Answers (W.writes writer.now) asked.entry input (A.meaning a.now) (B.meaning b.now) (S.written sink.old)
+        (S.written sink.new) result }
     ensures device { (result ≡ Err Device) ↔ IsTrue (S.has_failed sink.new) }
 {
     let listing = put_lines(alloc, sink, upgrade, commands, asked, writer, list)?;

@@ -51,7 +51,8 @@ pub(crate) fn put_lines<'l, A: Book, B: Book, S: Sink, W: LineWriter>(
 ) -> Result<Box<Listing<'l>>, RunFault>
     requires sound { ¬ IsTrue (S.has_failed sink.old) }
     requires places { All (λ place. place < length (sides_of upgrade.now).sender.commands) places.now }
-    ensures all { IfOk result (λ listing. AreAllPut (W.writes writer.now) (sides_of upgrade.now) asked.entry (map plain_entry list.now) places.now
+    ensures all { IfOk result
+        (λ listing. AreAllPut (W.writes writer.now) (sides_of upgrade.now) asked.entry (map plain_entry list.now) places.now
         (S.written sink.old) (S.written sink.new) listing.value.seen) }
     ensures front { IfErr result (λ fault. (first : List Row)
         × AreFirstLines (sides_of upgrade.now) asked.entry (map plain_entry list.now) places.now first
@@ -127,11 +128,14 @@ fn put_commands<'l, A: Book, B: Book, S: Sink, W: LineWriter>(
 ) -> Result<(), RunFault>
     requires sound { ¬ IsTrue (S.has_failed sink.old) }
     requires places { All (λ place. place < length (sides_of upgrade.now).sender.commands) places.now }
-    ensures all { OnOk result ((list : List PlainEntry) (begun : Option (List ℕ)) (place : ℕ) → (forgets ≡ true → IsEachNew places.now)
+    ensures all { OnOk result ((list : List PlainEntry) (begun : Option (List ℕ)) (place : ℕ)
+        → (forgets ≡ true → IsEachNew places.now)
         → listing.old.budget ≡ most_checked_together
         → IsUnderWay (W.writes writer.now) asked.entry forgets list place 0 begun (S.written sink.old) listing.old [] []
-        → AreUnderWay (W.writes writer.now) (sides_of upgrade.now) asked.entry forgets list places.now begun (S.written sink.new) listing.new) }
-    ensures stops { IfErr result (λ fault. (list : List PlainEntry) (begun : Option (List ℕ)) (place : ℕ) → (forgets ≡ true → IsEachNew places.now)
+        → AreUnderWay (W.writes writer.now) (sides_of upgrade.now) asked.entry forgets list places.now begun
+        (S.written sink.new) listing.new) }
+    ensures stops { IfErr result (λ fault. (list : List PlainEntry) (begun : Option (List ℕ)) (place : ℕ)
+        → (forgets ≡ true → IsEachNew places.now)
         → listing.old.budget ≡ most_checked_together
         → IsUnderWay (W.writes writer.now) asked.entry forgets list place 0 begun (S.written sink.old) listing.old [] []
         → (first : List Row) × AreFirstLines (sides_of upgrade.now) asked.entry list places.now first
@@ -160,7 +164,8 @@ fn put_command<'l, A: Book, B: Book, S: Sink, W: LineWriter>(
     ensures all { OnOk result ((recorded apart : List Row)
         × IsRecordedOf (sides_of upgrade.now) (stock_of upgrade.now) asked.entry.messages asked.entry.meaning
         (facts_of upgrade.now).lengths place listing.old.budget listing.new.budget recorded apart
-        × GoesOn (W.writes writer.now) asked.entry place (S.written sink.old) (S.written sink.new) listing.old listing.new recorded apart) }
+        × GoesOn (W.writes writer.now) asked.entry place (S.written sink.old)
+        (S.written sink.new) listing.old listing.new recorded apart) }
     ensures stops { IfErr result (λ fault. StopsIn (W.writes writer.now) (sides_of upgrade.now) (stock_of upgrade.now) asked.entry
         (facts_of upgrade.now).lengths place fault (S.written sink.old) (S.written sink.new) listing.old listing.new) }
     ensures device { (result ≡ Err Device) ↔ IsTrue (S.has_failed sink.new) }
@@ -192,8 +197,10 @@ fn put_each<'l, A: Book, B: Book, S: Sink, W: LineWriter>(
     requires { ¬ IsTrue (S.has_failed sink.old) }
     ensures all { OnOk result ((recorded : List Row)
         × AreParts (IsRecordedIn upgrade.now breaks.now place asked.entry.messages) lines.now recorded
-        × GoesOn (W.writes writer.now) asked.entry place (S.written sink.old) (S.written sink.new) listing.old listing.new recorded []) }
-    ensures stops { IfErr result (λ fault. StopsAmong (W.writes writer.now) asked.entry place fault (S.written sink.old) (S.written sink.new)
+        × GoesOn (W.writes writer.now) asked.entry place (S.written sink.old)
+        (S.written sink.new) listing.old listing.new recorded []) }
+    ensures stops { IfErr result
+        (λ fault. StopsAmong (W.writes writer.now) asked.entry place fault (S.written sink.old) (S.written sink.new)
         listing.old listing.new (IsRecordedIn upgrade.now breaks.now place asked.entry.messages) lines.now) }
     ensures budget { listing.new.budget ≡ listing.old.budget }
     ensures device { (result ≡ Err Device) ↔ IsTrue (S.has_failed sink.new) }
@@ -221,8 +228,10 @@ fn put_line<'l, A: Book, B: Book, S: Sink, W: LineWriter>(
     requires { ¬ IsTrue (S.has_failed sink.old) }
     ensures all { OnOk result ((t : Row)
         × IsRecordedIn upgrade.now breaks.now place asked.entry.messages line.now (t ∷ [])
-        × GoesOn (W.writes writer.now) asked.entry place (S.written sink.old) (S.written sink.new) listing.old listing.new (t ∷ []) []) }
-    ensures stops { IfErr result (λ fault. StopsAmong (W.writes writer.now) asked.entry place fault (S.written sink.old) (S.written sink.new)
+        × GoesOn (W.writes writer.now) asked.entry place (S.written sink.old) (S.written sink.new) listing.old listing.new
+        (t ∷ []) []) }
+    ensures stops { IfErr result
+        (λ fault. StopsAmong (W.writes writer.now) asked.entry place fault (S.written sink.old) (S.written sink.new)
         listing.old listing.new (IsRecordedIn upgrade.now breaks.now place asked.entry.messages) (line.now ∷ [])) }
     ensures budget { listing.new.budget ≡ listing.old.budget }
     ensures device { (result ≡ Err Device) ↔ IsTrue (S.has_failed sink.new) }

@@ -25,7 +25,7 @@ pub enum Findings {
     Listed {
         /// The entries of the list of accepted lines that accept nothing of it.
         unused: Vec<Entry>,
-        /// Those of them that are stale.
+        /// The stale ones among them.
         stale: Vec<Entry>,
         /// How many lines the list leaves; where there are more than can be counted, the greatest number.
         lines: usize,

@@ -42,7 +42,7 @@ pub(crate) fn stale_of<A: Book, B: Book>(
     }
 }
 
-/// Those of the entries that are about a command that is asked for, and accept no line of any policies.
+/// The entries about a command that is asked for that accept no line of any policies.
 fn look_for<A: Book, B: Book>(
     alloc: Global,
     asked: Asked<'_>,
@@ -62,7 +62,7 @@ fn look_for<A: Book, B: Book>(
     unused_by(alloc, asked, Sends::Listed, a, b, commands, second)
 }
 
-/// Those of the entries that accept no line where A's side sends this.
+/// The entries that accept no line where A's side sends this.
 fn unused_by<A: Book, B: Book>(
     alloc: Global,
     asked: Asked<'_>,
@@ -74,13 +74,14 @@ fn unused_by<A: Book, B: Book>(
 ) -> Result<Vec<Entry>, AllocError>
     requires { All (λ place. place < length (A.meaning a.now).commands) commands.now }
     ensures { IfOk result (λ left. commands.now ≡ asked_places (A.meaning a.now) (names_of asked.entry)
-        → AreUnusedBy asked.entry (A.meaning a.now) (B.meaning b.now) sends (map plain_entry list.items) (map plain_entry left.items)) }
+        → AreUnusedBy asked.entry (A.meaning a.now) (B.meaning b.now) sends (map plain_entry list.items)
+        (map plain_entry left.items)) }
 {
     let mid = unused_with(alloc, asked, sends, Unknown::Kept, a, b, commands, list)?;
     unused_with(alloc, asked, sends, Unknown::Refused, a, b, commands, mid)
 }
 
-/// Those of the entries that accept no line of these policies. With the policies that are asked for they accept none.
+/// The entries that accept no line of these policies: all, where these are the policies that are asked for.
 fn unused_with<A: Book, B: Book>(
     alloc: Global,
     asked: Asked<'_>,
@@ -93,7 +94,8 @@ fn unused_with<A: Book, B: Book>(
 ) -> Result<Vec<Entry>, AllocError>
     requires { All (λ place. place < length (A.meaning a.now).commands) commands.now }
     ensures { IfOk result (λ left. commands.now ≡ asked_places (A.meaning a.now) (names_of asked.entry)
-        → AreUnusedWith asked.entry (A.meaning a.now) (B.meaning b.now) sends unknown (map plain_entry list.items) (map plain_entry left.items)) }
+        → AreUnusedWith asked.entry (A.meaning a.now) (B.meaning b.now) sends unknown (map plain_entry list.items)
+        (map plain_entry left.items)) }
 {
     if list.is_empty() {
         return Ok(list);
@@ -111,7 +113,7 @@ fn asks_so(asked: Asked<'_>, sends: Sends, unknown: Unknown) -> bool
     sends == asked.sends && unknown == asked.unknown
 }
 
-/// Those of the entries that accept no line of the commands at these places.
+/// The entries that accept no line of the commands at these places.
 fn unused_over<A: Book, B: Book>(
     alloc: Global,
     asked: Asked<'_>,

@@ -1,4 +1,4 @@
-use Rattle.std.proofs.Common.{ap, cond, map, sym, take, true, ◌++◌, ◌∷◌, [], ◌∙◌}
+use Rattle.std.proofs.Common.{ap, cond, sym, true, ◌++◌, ◌∷◌, [], ◌∙◌}
 use Rattle.dia_accepted.specs.Accepted.{plain_entry}
 use Rattle.dia_accepted.specs.Sets.{has}
 use Rattle.dia_accepted.specs.Words.{command_in}

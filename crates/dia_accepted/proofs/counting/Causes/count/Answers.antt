@@ -1,7 +1,6 @@
 use Rattle.std.proofs.Common.{ap, sym, ◌∙◌}
 use Rattle.std.specs.List.{count_by}
-use Rattle.dia_accepted.specs.Accepted.{PlainRecorded}
-use Rattle.dia_accepted.specs.Causes.{commands_with, each_once, has_cause, same_cause_of_command}
+use Rattle.dia_accepted.specs.Causes.{each_once, has_cause, same_cause_of_command}
 use Rattle.dia_accepted.specs.Sets.{tally}
 use Rattle.dia_accepted.specs.Words.{cause_text}
 use Rattle.dia_accepted.proofs.counting.Causes.count.Goals as goal
