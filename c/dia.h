@@ -35,7 +35,8 @@
 extern "C" {
 #endif
 
-/* The version of this header. Within a version no struct, value or meaning changes; functions and values are only added. */
+/* The version of this header. Within a version no struct, value or meaning changes. Functions and values are only added, and fields
+ * in the place of `reserved`. */
 #define DIA_ABI_VERSION 1u
 
 /* The version of the library, which a program compares with DIA_ABI_VERSION first. Takes no memory. */
@@ -601,6 +602,32 @@ dia_status dia_peer_open_as(uint32_t role, uint32_t manner, const uint8_t *host,
                             size_t realm_len, const uint8_t *product, size_t product_len, const dia_ip *addresses,
                             size_t address_count, const dia_app *apps, size_t app_count, const dia_numbers *numbers,
                             dia_peer *peer, uint32_t *fault);
+
+/* What an end is opened with: the arguments of dia_peer_open_as by name. With `{.size = sizeof options, ..}` the fields that are
+ * not named are 0. */
+typedef struct dia_peer_options {
+    size_t size;             /* sizeof(dia_peer_options) */
+    uint32_t role;           /* DIA_INITIATOR or DIA_RESPONDER */
+    uint32_t manner;         /* 0 or DIA_MANNER_.. */
+    const uint8_t *host;     /* Origin-Host */
+    size_t host_len;
+    const uint8_t *realm;    /* Origin-Realm */
+    size_t realm_len;
+    const uint8_t *product;  /* Product-Name */
+    size_t product_len;
+    const dia_ip *addresses; /* Host-IP-Address */
+    size_t address_count;
+    const dia_app *apps;     /* the applications that the end advertises */
+    size_t app_count;
+    dia_numbers numbers;
+    uint64_t reserved[8];    /* each 0: the place of fields that are added within this version */
+} dia_peer_options;
+
+/* The same as dia_peer_open_as, with the fields of a struct as its arguments. A pointer in it is NULL only where its length is 0.
+ * DIA_BAD_ARGUMENT: `role` or `manner` is none of its values; `size` is not sizeof(dia_peer_options); or one of `reserved` is not 0.
+ * A field that is added takes a place of `reserved`: a library that does not have it refuses a program that sets it, and serves one
+ * that leaves it 0. */
+dia_status dia_peer_open_with(const dia_peer_options *options, dia_peer *peer, uint32_t *fault);
 
 enum {
     DIA_START = 0, /* the transport connection is there */

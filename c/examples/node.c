@@ -215,16 +215,31 @@ static int start(connection *c) {
     const uint32_t now = (uint32_t)time(NULL);
     uint32_t drawn[2];
     const int is_drawn = getrandom(drawn, sizeof drawn, 0) == sizeof drawn;
-    const dia_numbers numbers = {0, 1, now, drawn[0], now << 20 | (drawn[1] & 0xfffff)}; /* RFC 6733 section 3 */
     struct sockaddr_in here = {0};
     socklen_t size = sizeof here;
     dia_ip address = {0, {0}};
+    const dia_peer_options options = {
+        .size = sizeof options,
+        .role = c->role,
+        .manner = manner,
+        .host = (const uint8_t *)host,
+        .host_len = strlen(host),
+        .realm = (const uint8_t *)realm,
+        .realm_len = strlen(realm),
+        .product = (const uint8_t *)"node.c",
+        .product_len = 6,
+        .addresses = &address,
+        .address_count = 1,
+        .apps = applications,
+        .app_count = application_count,
+        /* RFC 6733 section 3 */
+        .numbers = {.has_state_id = 1, .state_id = now, .hop = drawn[0], .e2e = now << 20 | (drawn[1] & 0xfffff)},
+    };
     uint32_t fault = 0;
     dia_status status;
     getsockname(c->socket, (struct sockaddr *)&here, &size);
     memcpy(address.bytes, &here.sin_addr, sizeof here.sin_addr);
-    status = dia_peer_open_as(c->role, manner, (const uint8_t *)host, strlen(host), (const uint8_t *)realm, strlen(realm),
-                              (const uint8_t *)"node.c", 6, &address, 1, applications, application_count, &numbers, &c->peer, &fault);
+    status = dia_peer_open_with(&options, &c->peer, &fault);
     if (status != DIA_OK || !is_drawn) {
         fprintf(stderr, "the names or the applications are refused: status %u, fault %u\n", (unsigned)status, (unsigned)fault);
         exit(2);

@@ -21,10 +21,23 @@ static uint8_t message[LONGEST];
 static int open_side(side *s, uint32_t role, const char *host, const char *realm, uint8_t last) {
     const dia_ip address = {0, {127, 0, 0, last}};
     const dia_app credit_control = {0, 4, 0, 0}; /* RFC 8506 */
-    const dia_numbers numbers = {0, 0, 0, 1, 1};
+    const dia_peer_options options = {
+        .size = sizeof options,
+        .role = role,
+        .host = (const uint8_t *)host,
+        .host_len = strlen(host),
+        .realm = (const uint8_t *)realm,
+        .realm_len = strlen(realm),
+        .product = (const uint8_t *)"example",
+        .product_len = 7,
+        .addresses = &address,
+        .address_count = 1,
+        .apps = &credit_control,
+        .app_count = 1,
+        .numbers = {.hop = 1, .e2e = 1},
+    };
     uint32_t fault = 0;
-    dia_status status = dia_peer_open(role, (const uint8_t *)host, strlen(host), (const uint8_t *)realm, strlen(realm),
-                                      (const uint8_t *)"example", 7, &address, 1, &credit_control, 1, &numbers, &s->peer, &fault);
+    dia_status status = dia_peer_open_with(&options, &s->peer, &fault);
     if (status != DIA_OK) {
         fprintf(stderr, "%s: status %u, fault %u\n", s->name, (unsigned)status, (unsigned)fault);
     }

@@ -61,6 +61,23 @@ AT(dia_numbers, state_id, 8);
 AT(dia_numbers, hop, 12);
 AT(dia_numbers, e2e, 16);
 
+_Static_assert(sizeof(dia_peer_options) == 184, "dia_peer_options");
+AT(dia_peer_options, size, 0);
+AT(dia_peer_options, role, 8);
+AT(dia_peer_options, manner, 12);
+AT(dia_peer_options, host, 16);
+AT(dia_peer_options, host_len, 24);
+AT(dia_peer_options, realm, 32);
+AT(dia_peer_options, realm_len, 40);
+AT(dia_peer_options, product, 48);
+AT(dia_peer_options, product_len, 56);
+AT(dia_peer_options, addresses, 64);
+AT(dia_peer_options, address_count, 72);
+AT(dia_peer_options, apps, 80);
+AT(dia_peer_options, app_count, 88);
+AT(dia_peer_options, numbers, 96);
+AT(dia_peer_options, reserved, 120);
+
 _Static_assert(sizeof(dia_stream) == 16, "dia_stream");
 AT(dia_stream, dia_private, 0);
 AT(dia_stream, dia_state, 8);

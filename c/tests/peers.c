@@ -169,14 +169,63 @@ static int says(dia_peer *peer, uint32_t which, const char *value, size_t len) {
     return dia_peer_value(peer, which, out, sizeof out, &count) == DIA_OK && count == len && memcmp(out, value, len) == 0;
 }
 
-/* A responder of modes, with Auth 4. */
+/* The options of a responder, with Auth 4. */
+static dia_peer_options responder(void) {
+    static const dia_ip address = {0, {127, 0, 0, 2}};
+    static const dia_app app = {0, 4, 0, 0};
+    return (dia_peer_options){
+        .size = sizeof(dia_peer_options), .role = DIA_RESPONDER, .host = (const uint8_t *)"c.d", .host_len = 3,
+        .realm = (const uint8_t *)"d", .realm_len = 1, .product = (const uint8_t *)"q", .product_len = 1, .addresses = &address,
+        .address_count = 1, .apps = &app, .app_count = 1, .numbers = {.hop = 1, .e2e = 1}};
+}
+
+/* Opens a responder of modes. */
 static dia_status open_modes(dia_peer *peer, uint32_t manner) {
-    const dia_ip address = {0, {127, 0, 0, 2}};
-    const dia_app app = {0, 4, 0, 0};
-    const dia_numbers numbers = {0, 0, 0, 1, 1};
+    dia_peer_options options = responder();
     uint32_t fault;
-    return dia_peer_open_as(DIA_RESPONDER, manner, (const uint8_t *)"c.d", 3, (const uint8_t *)"d", 1, (const uint8_t *)"q", 1,
-                            &address, 1, &app, 1, &numbers, peer, &fault);
+    options.manner = manner;
+    return dia_peer_open_with(&options, peer, &fault);
+}
+
+/* Whether options are refused, for the value of an argument, and nothing is written. */
+static int are_refused(const dia_peer_options *options) {
+    dia_peer p = DIA_PEER_INIT;
+    uint32_t fault = 99;
+    return dia_peer_open_with(options, &p, &fault) == DIA_BAD_ARGUMENT && fault == 99 && p.dia_private == NULL && p.dia_state == 0;
+}
+
+/* A struct of another size, or with a field that this library doesn't know, opens nothing. */
+static void options_of_later_versions_are_refused(void) {
+    static const size_t sizes[] = {0, 1, sizeof(size_t), offsetof(dia_peer_options, reserved), sizeof(dia_peer_options) - 1,
+                                   sizeof(dia_peer_options) + 1, sizeof(dia_peer_options) + 8, SIZE_MAX};
+    dia_peer p = DIA_PEER_INIT;
+    dia_peer_options options;
+    uint32_t fault = 99;
+    for (size_t i = 0; i < sizeof sizes / sizeof *sizes; i++) {
+        options = responder();
+        options.size = sizes[i];
+        EXPECT(are_refused(&options));
+    }
+    for (size_t i = 0; i < sizeof options.reserved / sizeof *options.reserved; i++) {
+        for (int bit = 0; bit < 64; bit++) {
+            options = responder();
+            options.reserved[i] = UINT64_C(1) << bit;
+            EXPECT(are_refused(&options));
+        }
+    }
+    options = responder();
+    options.role = 2;
+    EXPECT(are_refused(&options));
+    options = responder();
+    options.manner = 16;
+    EXPECT(are_refused(&options));
+    options = responder();
+    options.app_count = 0;
+    EXPECT(dia_peer_open_with(&options, &p, &fault) == DIA_REFUSED && fault == DIA_BAD_APPLICATION && p.dia_private == NULL);
+    options = responder();
+    EXPECT(dia_peer_open_with(&options, &p, &fault) == DIA_OK && rests(&p, DIA_STATE_IDLE));
+    EXPECT(dia_peer_open_with(&options, &p, &fault) == DIA_IS_OPEN && rests(&p, DIA_STATE_IDLE));
+    dia_peer_close(&p);
 }
 
 /* With DIA_MANNER_ANSWERS a request that is no valid message is answered before the close, and without it not. */
@@ -322,10 +371,17 @@ static void a_configuration_is_told(void) {
     const dia_ip address = {1, {0x20, 0x01, 0x0d, 0xb8, 0, 0, 0, 0, 0, 0, 0, 0, 0, 0, 0, 1}};
     const dia_app app = {1, 3, 1, 10415};
     const dia_numbers numbers = {10415, 1, 7, 1, 2};
+    const dia_peer_options options = {
+        .size = sizeof options, .role = DIA_INITIATOR, .host = (const uint8_t *)"a.b", .host_len = 3, .realm = (const uint8_t *)"b",
+        .realm_len = 1, .product = (const uint8_t *)"p", .product_len = 1, .addresses = &address, .address_count = 1, .apps = &app,
+        .app_count = 1, .numbers = numbers};
     dia_peer p = DIA_PEER_INIT;
     uint32_t fault;
     EXPECT(dia_peer_open(DIA_INITIATOR, (const uint8_t *)"a.b", 3, (const uint8_t *)"b", 1, (const uint8_t *)"p", 1, &address, 1,
                          &app, 1, &numbers, &p, &fault) == DIA_OK);
+    EXPECT(dia_peer_event(&p, DIA_START, out, 0, 0) == DIA_OK && sends(&p, wanted, LENGTH(wanted)));
+    dia_peer_close(&p);
+    EXPECT(dia_peer_open_with(&options, &p, &fault) == DIA_OK);
     EXPECT(dia_peer_event(&p, DIA_START, out, 0, 0) == DIA_OK && sends(&p, wanted, LENGTH(wanted)));
     dia_peer_close(&p);
 }
@@ -340,6 +396,7 @@ int main(void) {
     timers_and_identifiers();
     outputs_are_taken_in_order();
     configurations_are_refused();
+    options_of_later_versions_are_refused();
     a_configuration_is_told();
     return tell_counts();
 }

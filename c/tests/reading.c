@@ -275,6 +275,10 @@ static void nulls_are_no_messages(void) {
     static const dia_ip loopback = {0, {127, 0, 0, 1}};
     static const dia_app app = {0, 4, 0, 0};
     static const dia_numbers numbers = {0, 0, 0, 1, 1};
+    static const dia_peer_options nothing = {.size = sizeof nothing, .role = DIA_INITIATOR};
+    static const dia_peer_options unnamed = {
+        .size = sizeof unnamed, .role = DIA_INITIATOR, .host = name, .host_len = 1, .realm = name, .realm_len = 1,
+        .addresses = &loopback, .address_count = 1, .apps = &app, .app_count = 1};
     dia_dict dict = DIA_DICT_INIT;
     dia_text text = DIA_TEXT_INIT;
     dia_stream stream = DIA_STREAM_INIT;
@@ -294,6 +298,9 @@ static void nulls_are_no_messages(void) {
     EXPECT(dia_peer_open(DIA_INITIATOR, name, 1, name, 1, NULL, 0, &loopback, 1, &app, 1, &numbers, &peer, &number) == DIA_OK);
     EXPECT(dia_peer_event(&peer, DIA_START, NULL, 0, 0) == DIA_OK);
     EXPECT(dia_peer_output(&peer, &number, NULL, 0, &count, &why) == DIA_NO_ROOM && count > 20);
+    dia_peer_close(&peer);
+    EXPECT(dia_peer_open_with(&nothing, &peer, &number) == DIA_REFUSED && number == DIA_BAD_HOST);
+    EXPECT(dia_peer_open_with(&unnamed, &peer, &number) == DIA_OK);
     dia_peer_close(&peer);
     dia_dict_close(&dict);
 }

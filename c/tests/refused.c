@@ -194,6 +194,17 @@ static dia_status opens_peer(void) {
     return dia_peer_open(DIA_INITIATOR, name, 3, name, 3, name, 3, &address, 1, &app, 1, &numbers, &peer, &fault);
 }
 
+static dia_status opens_peer_with(void) {
+    const dia_ip address = {0, {127, 0, 0, 1}};
+    const dia_app app = {0, 4, 0, 0};
+    const uint8_t *name = (const uint8_t *)"a.b";
+    const dia_peer_options options = {
+        .size = sizeof options, .role = DIA_INITIATOR, .host = name, .host_len = 3, .realm = name, .realm_len = 3,
+        .addresses = &address, .address_count = 1, .apps = &app, .app_count = 1, .numbers = {0, 0, 0, 1, 1}};
+    uint32_t fault;
+    return dia_peer_open_with(&options, &peer, &fault);
+}
+
 /* A CER is to be sent. */
 static dia_status starts(void) {
     return dia_peer_event(&peer, DIA_START, watchdog, 0, 0);
@@ -329,6 +340,8 @@ int main(void) {
     refuse_each("render", renders, close_nothing, 2);
     refuse_each("faults_open", finds_faults, close_faults, 4);
     refuse_each("peer_open", opens_peer, close_peer, 100);
+    close_peer();
+    refuse_each("peer_open_with", opens_peer_with, close_peer, 100);
     refuse_each("peer_event", starts, close_nothing, 2);
     EXPECT(dia_stream_open(&dict, DIA_KEPT, DIA_ANY_LEVELS, &stream) == DIA_OK);
     take_no_memory();

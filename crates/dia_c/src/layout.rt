@@ -2,7 +2,8 @@
 
 use dia_c_calls::{
     DictAvp, DictCommand, DictHandle, FaultsHandle, Fed, MessageAvp, MessageHead, PeerAddress,
-    PeerApp, PeerHandle, PeerNumbers, Problem, RecordedFault, StreamHandle, TextHandle, Verdict,
+    PeerApp, PeerHandle, PeerNumbers, PeerOptions, Problem, RecordedFault, StreamHandle,
+    TextHandle, Verdict,
 };
 
 const _: () = prove!(size_of::<DictHandle>() == 16);
@@ -26,6 +27,8 @@ const _: () = prove!(size_of::<PeerAddress>() == 20);
 const _: () = prove!(size_of::<PeerApp>() == 16);
 
 const _: () = prove!(size_of::<PeerNumbers>() == 20);
+
+const _: () = prove!(size_of::<PeerOptions<'_>>() == 184);
 
 const _: () = prove!(size_of::<Fed>() == 16);
 

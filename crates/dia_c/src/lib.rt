@@ -16,6 +16,7 @@ mod fault_lists;
 mod heads;
 mod layout;
 mod listings;
+mod peer_opening;
 mod peer_timers;
 mod peer_values;
 mod peers;
@@ -39,11 +40,12 @@ pub use explanations::dia_explain;
 pub use fault_lists::{dia_faults_close, dia_faults_get, dia_faults_open, dia_line_column};
 pub use heads::dia_header;
 pub use listings::dia_show;
+pub use peer_opening::{dia_peer_open, dia_peer_open_as, dia_peer_open_with};
 pub use peer_timers::{dia_peer_identifiers, dia_peer_quiet_ms, dia_peer_timer};
 pub use peer_values::{dia_peer_heard, dia_peer_suspect, dia_peer_value};
 pub use peers::{
-    dia_peer_close, dia_peer_common, dia_peer_event, dia_peer_open, dia_peer_open_as,
-    dia_peer_output, dia_peer_serves, dia_peer_state,
+    dia_peer_close, dia_peer_common, dia_peer_event, dia_peer_output, dia_peer_serves,
+    dia_peer_state,
 };
 pub use replies::dia_answer;
 pub use streams::{

@@ -1,5 +1,5 @@
 -- One end of a connection, as programs in C open it.
-use Rattle.std.specs.Prelude.{◌≡◌, ◌≢◌, ◌==◌, ℕ, ◌<◌, ◌⊎◌, bit_and, not, List, [], map, take, Option, Some, None, nat_eq, if◌then◌else◌}
+use Rattle.std.specs.Prelude.{◌≡◌, ◌≢◌, ◌==◌, ℕ, ◌<◌, ◌⊎◌, bit_and, not, List, [], map, replicate, take, Option, Some, None, nat_eq, if◌then◌else◌}
 use Rattle.std.specs.Str.{IsUtf8}
 use Rattle.dia_peer.specs.declared.config.Role.{Role}
 use Rattle.dia_peer.specs.declared.config.Role.TheVariants.{Initiator, Responder}
@@ -17,6 +17,7 @@ use Rattle.dia_peer.specs.World.{idle}
 use Rattle.dia_c_calls.specs.declared.peer_config.PeerAddress.{PeerAddress}
 use Rattle.dia_c_calls.specs.declared.peer_config.PeerApp.{PeerApp}
 use Rattle.dia_c_calls.specs.declared.peer_config.PeerNumbers.{PeerNumbers}
+use Rattle.dia_c_calls.specs.declared.peer_options.PeerOptions.{PeerOptions}
 use Rattle.dia_c_calls.specs.PeerSteps.{PlainEnd}
 
 abbrev pub IsRole : ℕ → Type 0
@@ -66,6 +67,14 @@ config_of host realm product addresses apps numbers = record {
   hop = numbers.hop;
   e2e = numbers.e2e;
 }
+
+-- the configuration that the struct of these arguments says
+abbrev pub configured : PeerOptions → PlainConfig
+configured o = config_of o.host.now o.realm.now o.product.now o.addresses.now o.apps.now o.numbers
+
+-- the struct has the size of 184 bytes that this library knows, and zeros in the words for fields that are added
+abbrev pub AreUnderstood : PeerOptions → Type 0
+AreUnderstood o = (o.size ≡ 184) × (o.reserved ≡ replicate 8 0)
 
 abbrev pub fault_number : ConfigFault → ℕ
 fault_number fault.NoMemory = 0

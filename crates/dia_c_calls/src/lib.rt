@@ -31,6 +31,8 @@ mod outcomes;
 mod peer;
 mod peer_config;
 mod peer_numbers;
+mod peer_opening;
+mod peer_options;
 mod peer_timers;
 mod peer_values;
 mod peers;
@@ -65,12 +67,11 @@ pub use heads::{MessageHead, header};
 pub use listings::show;
 pub use opening::Problem;
 pub use peer_config::{PeerAddress, PeerApp, PeerNumbers};
+pub use peer_opening::{peer_open, peer_open_as, peer_open_with};
+pub use peer_options::PeerOptions;
 pub use peer_timers::{peer_identifiers, peer_quiet_ms, peer_timer};
 pub use peer_values::{peer_heard, peer_suspect, peer_value};
-pub use peers::{
-    peer_close, peer_common, peer_event, peer_open, peer_open_as, peer_output, peer_serves,
-    peer_state,
-};
+pub use peers::{peer_close, peer_common, peer_event, peer_output, peer_serves, peer_state};
 pub use recorded_fault::RecordedFault;
 pub use replies::answer;
 pub use status::{

@@ -1,174 +1,23 @@
-//! One end of a connection: it is opened, takes events, gives outputs, and is closed.
+//! One end of a connection: it takes events, gives outputs, and is closed.
 
-ghost use Rattle.std.specs.Prelude.{◌⊎◌, ◌≡◌, ◌≢◌, ◌<◌, ◌≤◌, [], drop, length, slice_get, take};
-ghost use Rattle.std.specs.Prelude.{IfErr, IfOk, IfSome, IsSome, None, Some};
-ghost use Rattle.dia_peer.specs.Core.{plain_config};
-ghost use Rattle.dia_peer.specs.Machine.{IsRefusedAs};
+ghost use Rattle.std.specs.Prelude.{◌⊎◌, ◌≡◌, ◌≢◌, ◌<◌, ◌≤◌, [], drop, length, slice_get, take, IfSome, IsSome, None};
 ghost use Rattle.dia_peer.specs.Outputs.{PlainOutput};
-ghost use Rattle.dia_c_calls.specs.Held.{MayBePeer, Takes, peer_in};
-ghost use Rattle.dia_c_calls.specs.Peers.{HasFault, IsBegun, IsBegunAs, IsFaultOf, IsManner, IsRole, ServesAs, config_of, recorded_pair};
-ghost use Rattle.dia_c_calls.specs.PeerSteps.{HasHappened, IsEventNumber, IsRecordedOutput, WantsRoom, plain_end, state_number};
+ghost use Rattle.dia_c_calls.specs.Held.{Takes, peer_in};
+ghost use Rattle.dia_c_calls.specs.Peers.{ServesAs, recorded_pair};
+ghost use Rattle.dia_c_calls.specs.PeerSteps.{HasHappened, IsEventNumber, IsRecordedOutput, WantsRoom, state_number};
 
 use crate::handle::{PeerHandle, give_in, peer_in, report_in};
-use crate::held::Held;
-use crate::peer::{Given, Peer};
-use crate::peer_config::{Names, PeerAddress, PeerApp, PeerNumbers, common_at, config_of};
-use crate::peer_numbers::{
-    event_of, fault_number, manner_of, role_of, serves_number, state_number, why_number,
-};
-use crate::status::{
-    BAD_ARGUMENT, DONE, IS_CLOSED, IS_OPEN, NO_MEMORY, NO_ROOM, NONE, OUTPUTS_LEFT, REFUSED,
-};
-use dia_peer::{Config, ConfigFault, Manner, Role};
-use std::alloc::{AllocError, Global};
+use crate::peer::Given;
+use crate::peer_config::{PeerApp, common_at};
+use crate::peer_numbers::{event_of, serves_number, state_number, why_number};
+use crate::status::{BAD_ARGUMENT, DONE, IS_CLOSED, NO_MEMORY, NO_ROOM, NONE, OUTPUTS_LEFT};
+use std::alloc::Global;
 
 /// The number of an output that is a message to be sent.
 const SEND: u32 = 0;
 
 /// The number of an output that closes the connection.
 const CLOSE: u32 = 1;
-
-/// Opens one end of a connection.
-pub fn peer_open(
-    alloc: Global,
-    role: u32,
-    host: &[u8],
-    realm: &[u8],
-    product: &[u8],
-    addresses: &[PeerAddress],
-    apps: &[PeerApp],
-    numbers: &PeerNumbers,
-    handle: &mut PeerHandle,
-    fault: &mut u32,
-) -> u32
-    ensures ends { (result ≡ DONE) ⊎ (result ≡ REFUSED) ⊎ (result ≡ NO_MEMORY) ⊎ (result ≡ IS_OPEN) ⊎ (result ≡ BAD_ARGUMENT) }
-    ensures done { result ≡ DONE → IfSome (peer_in handle.new.slot.seal.held)
-        (IsBegun role 0 (config_of host.now realm.now product.now addresses.now apps.now numbers.now)) }
-    ensures is_open { result ≡ DONE → IsSome (peer_in handle.new.slot.seal.held) }
-    ensures kept { result ≢ DONE → handle.new.slot.seal.held ≡ handle.old.slot.seal.held }
-    ensures refused { result ≡ REFUSED
-        → HasFault 0 (config_of host.now realm.now product.now addresses.now apps.now numbers.now) fault.new }
-    ensures only { result ≢ REFUSED → fault.new ≡ fault.old }
-    ensures was_closed { result ≢ IS_OPEN → result ≢ BAD_ARGUMENT → handle.old.slot.seal.held ≡ None }
-    ensures was_open { result ≡ IS_OPEN → IsSome handle.old.slot.seal.held }
-    ensures bad { result ≡ BAD_ARGUMENT → ¬ IsRole role }
-    ensures good { result ≢ BAD_ARGUMENT → IsRole role }
-{
-    peer_open_as(
-        alloc, role, 0, host, realm, product, addresses, apps, numbers, handle, fault,
-    )
-}
-
-/// Opens one end of a connection that is of manners, each a bit: 1 relays, 2 answers, 4 life, 8 values; 0 is none.
-pub fn peer_open_as(
-    alloc: Global,
-    role: u32,
-    manner: u32,
-    host: &[u8],
-    realm: &[u8],
-    product: &[u8],
-    addresses: &[PeerAddress],
-    apps: &[PeerApp],
-    numbers: &PeerNumbers,
-    handle: &mut PeerHandle,
-    fault: &mut u32,
-) -> u32
-    ensures ends { (result ≡ DONE) ⊎ (result ≡ REFUSED) ⊎ (result ≡ NO_MEMORY) ⊎ (result ≡ IS_OPEN) ⊎ (result ≡ BAD_ARGUMENT) }
-    ensures done { result ≡ DONE → IfSome (peer_in handle.new.slot.seal.held)
-        (IsBegun role manner (config_of host.now realm.now product.now addresses.now apps.now numbers.now)) }
-    ensures is_open { result ≡ DONE → IsSome (peer_in handle.new.slot.seal.held) }
-    ensures kept { result ≢ DONE → handle.new.slot.seal.held ≡ handle.old.slot.seal.held }
-    ensures refused { result ≡ REFUSED
-        → HasFault manner (config_of host.now realm.now product.now addresses.now apps.now numbers.now) fault.new }
-    ensures only { result ≢ REFUSED → fault.new ≡ fault.old }
-    ensures was_closed { result ≢ IS_OPEN → result ≢ BAD_ARGUMENT → handle.old.slot.seal.held ≡ None }
-    ensures was_open { result ≡ IS_OPEN → IsSome handle.old.slot.seal.held }
-    ensures bad { result ≡ BAD_ARGUMENT → ¬ (IsRole role × IsManner manner) }
-    ensures good { result ≢ BAD_ARGUMENT → IsRole role × IsManner manner }
-{
-    let Some(role) = role_of(role) else {
-        return BAD_ARGUMENT;
-    };
-    let Some(manner) = manner_of(manner) else {
-        return BAD_ARGUMENT;
-    };
-    if handle.is_open() {
-        return IS_OPEN;
-    }
-    match begun(
-        alloc, role, manner, host, realm, product, addresses, apps, numbers,
-    ) {
-        Ok(held) => {
-            handle.put(held);
-            DONE
-        }
-        Err(found) => match fault_number(found) {
-            Some(number) => {
-                *fault = number;
-                REFUSED
-            }
-            None => NO_MEMORY,
-        },
-    }
-}
-
-/// An end of this configuration.
-fn begun(
-    alloc: Global,
-    role: Role,
-    manner: Manner,
-    host: &[u8],
-    realm: &[u8],
-    product: &[u8],
-    addresses: &[PeerAddress],
-    apps: &[PeerApp],
-    numbers: &PeerNumbers,
-) -> Result<Box<Held>, ConfigFault>
-    ensures ok { IfOk result (λ held. IfSome (peer_in (Some held.value))
-        (IsBegunAs role manner (config_of host.now realm.now product.now addresses.now apps.now numbers.now))) }
-    ensures is_peer { IfOk result (λ held. (∥ MayBePeer (Some held.value) ∥₁) × IsSome (peer_in (Some held.value))) }
-    ensures err { IfErr result (λ found. found ≢ ConfigFault.NoMemory
-        → IsFaultOf manner (config_of host.now realm.now product.now addresses.now apps.now numbers.now) found) }
-{
-    let Ok(host) = str::from_utf8(host) else {
-        return Err(ConfigFault::Host);
-    };
-    let Ok(realm) = str::from_utf8(realm) else {
-        return Err(ConfigFault::Realm);
-    };
-    let Ok(product) = str::from_utf8(product) else {
-        return Err(ConfigFault::Product);
-    };
-    let names = Names {
-        host,
-        realm,
-        product,
-    };
-    let config = config_of(alloc, names, addresses, apps, numbers)?;
-    begun_of(alloc, config, role, manner)
-}
-
-/// An end of this configuration, in a box.
-fn begun_of(
-    alloc: Global,
-    config: Config,
-    role: Role,
-    manner: Manner,
-) -> Result<Box<Held>, ConfigFault>
-    ensures ok { IfOk result (λ held. IfSome (peer_in (Some held.value)) (IsBegunAs role manner (plain_config config))) }
-    ensures is_peer { IfOk result (λ held. (∥ MayBePeer (Some held.value) ∥₁) × IsSome (peer_in (Some held.value))) }
-    ensures err { IfErr result (IsRefusedAs manner (plain_config config)) }
-{
-    let peer = Peer::new(alloc, config, role, manner)?;
-    Ok(boxed(alloc, peer)?)
-}
-
-fn boxed(alloc: Global, peer: Peer) -> Result<Box<Held>, AllocError>
-    ensures { IfOk result (λ held. (peer_in (Some held.value) ≡ Some (plain_end peer)) × ∥ MayBePeer (Some held.value) ∥₁) }
-{
-    let peer = Box::new(alloc, peer)?;
-    Ok(Box::new(alloc, Held::Peer(peer))?)
-}
 
 /// Delivers an event to an end.
 pub fn peer_event(

@@ -54,6 +54,26 @@ class Numbers(c.Structure):
     _fields_ = [(name, c.c_uint32) for name in ("vendor", "has_state_id", "state_id", "hop", "e2e")]
 
 
+class PeerOptions(c.Structure):
+    _fields_ = [
+        ("size", c.c_size_t),
+        ("role", c.c_uint32),
+        ("manner", c.c_uint32),
+        ("host", c.c_char_p),
+        ("host_len", c.c_size_t),
+        ("realm", c.c_char_p),
+        ("realm_len", c.c_size_t),
+        ("product", c.c_char_p),
+        ("product_len", c.c_size_t),
+        ("addresses", c.POINTER(Ip)),
+        ("address_count", c.c_size_t),
+        ("apps", c.POINTER(App)),
+        ("app_count", c.c_size_t),
+        ("numbers", Numbers),
+        ("reserved", c.c_uint64 * 8),
+    ]
+
+
 class RawAvp(c.Structure):
     _fields_ = (
         [(name, c.c_size_t) for name in ("place", "depth", "length", "data_place", "data_length", "name_count")]
@@ -114,7 +134,7 @@ CALLS: dict[str, tuple[Any, ...]] = {
     "text_length": (H, SIZE),
     "text_close": (H,),
     "compare": (H, H, U, B, S, H, NUMBER, PROBLEM),
-    "peer_open_as": (U, U, B, S, B, S, B, S, c.POINTER(Ip), S, c.POINTER(App), S, c.POINTER(Numbers), H, NUMBER),
+    "peer_open_with": (c.POINTER(PeerOptions), H, NUMBER),
     "peer_event": (H, U, B, S, U),
     "peer_output": (H, NUMBER, B, S, SIZE, NUMBER),
     "peer_state": (H, NUMBER),

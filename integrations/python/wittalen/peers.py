@@ -11,7 +11,7 @@ from enum import IntEnum
 from typing import Iterable, Optional, Union
 
 from . import _lib
-from ._lib import App, Ip, Numbers, Owner, lib, octets, require, u32
+from ._lib import App, Ip, Numbers, Owner, PeerOptions, lib, octets, require, u32
 
 RELAY = 0xFFFFFFFF
 """The Application-ID of relays (RFC 6733 section 2.4)."""
@@ -93,16 +93,28 @@ class Peer(Owner):
         super().__init__()
         self._waiting: list[Output] = []
         self._timer = Timer.OFF
-        words = [word.encode() for word in (host, realm, product)]
+        names = [name.encode() for name in (host, realm, product)]
         ips, apps = [_ip(address) for address in addresses], [_app(application) for application in applications]
         hop, e2e = identifiers or _identifiers()
         ids = [u32(it, "identifiers") for it in (hop, e2e)]
-        numbers = Numbers(u32(vendor, "vendor"), state_id is not None, u32(state_id or 0, "state_id"), *ids)
-        names = [part for word in words for part in (word, len(word))]
-        lists = ((Ip * max(1, len(ips)))(*ips), len(ips), (App * max(1, len(apps)))(*apps), len(apps))
+        options = PeerOptions(
+            size=c.sizeof(PeerOptions),
+            role=Role(role),
+            manner=bool(relays) | bool(answers) << 1 | bool(life) << 2 | bool(values) << 3,
+            host=names[0],
+            host_len=len(names[0]),
+            realm=names[1],
+            realm_len=len(names[1]),
+            product=names[2],
+            product_len=len(names[2]),
+            addresses=(Ip * len(ips))(*ips),
+            address_count=len(ips),
+            apps=(App * len(apps))(*apps),
+            app_count=len(apps),
+            numbers=Numbers(u32(vendor, "vendor"), state_id is not None, u32(state_id or 0, "state_id"), *ids),
+        )
         fault = c.c_uint32()
-        manner = bool(relays) | bool(answers) << 1 | bool(life) << 2 | bool(values) << 3
-        status = lib.dia_peer_open_as(Role(role), manner, *names, *lists, numbers, self._handle, fault)
+        status = lib.dia_peer_open_with(options, self._handle, fault)
         if status == _lib.REFUSED:
             fields = ("", "host", "realm", "product", "addresses", "applications")
             raise ValueError(f"{fields[fault.value]}: refused")

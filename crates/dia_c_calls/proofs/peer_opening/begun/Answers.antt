@@ -1,6 +1,6 @@
 use Rattle.std.proofs.Common.{inl}
 use Rattle.dia_c_calls.specs.Peers.{IsNoText}
-use Rattle.dia_c_calls.proofs.peers.begun.Goals as goal
+use Rattle.dia_c_calls.proofs.peer_opening.begun.Goals as goal
 
 pub returns-in_default-clause-err : goal.returns-in_default-clause-err
 returns-in_default-clause-err c not = inl (IsNoText.host c.in_default.ensures.cases.0)
