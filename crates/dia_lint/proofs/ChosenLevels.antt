@@ -1,6 +1,6 @@
 -- A least level that has a chosen AVP exists, and its AVPs are made.
-use Rattle.std.proofs.Common.{◌≡◌, ℕ, ◌+◌, ◌-◌, ◌<◌, ◌≤◌, zero, suc, Bool, true, false, List, [], ◌∷◌, Option, Some, None, refl, sym, ap, subst, ◌∙◌, arith}
-use Rattle.std.specs.Prelude.{nat_eq, nat_le, nat_lt, not, ◌||◌, if◌then◌else◌, IfSome, IsSome, IsTrue, Contains}
+use Rattle.std.proofs.Common.{◌≡◌, ℕ, ◌+◌, ◌-◌, ◌<◌, ◌≤◌, zero, suc, Bool, true, false, List, Option, Some, None, refl, ap, subst, arith}
+use Rattle.std.specs.Prelude.{nat_eq, nat_le, nat_lt, not, ◌||◌, if◌then◌else◌, IfSome, IsTrue, Contains}
 use Rattle.std.specs.List.{AllByRecursion}
 use Rattle.std.specs.Option.{option_eq, option_map_or}
 use Rattle.std.proofs.lemmas.Bool.{leb-false, ltb-true, ltb-false}
@@ -16,7 +16,7 @@ use Rattle.dia_valid.proofs.Members.{IsIn, contains_in, in_contains}
 use Rattle.dia_valid.proofs.RuleCounts.{counts_key}
 use Rattle.dia_valid.proofs.RulesOfKeys.{is_listed_by}
 use Rattle.dia_breaking_sites.specs.Sent.{StandAsSent}
-use Rattle.dia_breaking_levels.specs.LeastLevels.{or_filler, plan, total}
+use Rattle.dia_breaking_levels.specs.LeastLevels.{plan, total}
 use Rattle.dia_breaking_levels.specs.LevelTests.{too_long, capped, base_length, least_filler}
 use Rattle.dia_breaking_levels.proofs.LeastLevels.{counts_by, definition_rules}
 use Rattle.dia_breaking_levels.proofs.LevelBounds.{is_wild}
