@@ -12,8 +12,7 @@ use Rattle.dia_book.proofs.Members.{at_filter_map, at_map}
 use Rattle.dia_dict.specs.Resolution.{definition_of, head_of, resolved}
 use Rattle.dia_io.specs.declared.Input.{Input}
 use Rattle.dia_run.specs.Texts.{IsDictionaryText}
-use Rattle.dia_lint.specs.Exact.{IsNumbered}
-use Rattle.dia_lint_text.specs.Outcome.{AreNumbered}
+use Rattle.dia_lint.specs.Exact.{AreNumbered, IsNumbered}
 
 -- the tokens of one of them
 part_of : {X : Type 0} (class : X → Tokens) (xs : List X) (ts : List Token) → each class xs ts → (j : ℕ) (x : X) → slice_get xs j ≡ Some x → (part : List Token) × class x part

@@ -1,11 +1,11 @@
 -- What `lint` writes, and how it ends.
-use Rattle.std.specs.Prelude.{◌≡◌, ℕ, Bool, true, false, List, ◌++◌, length, map, flat_map, slice_get, Some, None, codes}
+use Rattle.std.specs.Prelude.{◌≡◌, ℕ, Bool, true, false, List, ◌++◌, length, map, flat_map, Some, None, codes}
 use Rattle.json.specs.Print.{quoted}
 use Rattle.dia_accepted.specs.Accepted.{PlainEntry}
 use Rattle.dia_ccf.specs.declared.source.Source.{Source}
 use Rattle.dia_ccf.specs.declared.source.Def.{Def}
 use Rattle.dia_ccf.specs.Plain.{plain_source}
-use Rattle.dia_book.specs.Dictionary.{Dictionary, PlainDefinition}
+use Rattle.dia_book.specs.Dictionary.{Dictionary}
 use Rattle.dia_io.specs.declared.Exit.{Exit}
 use Rattle.dia_io.specs.declared.Exit.TheVariants as exits
 use Rattle.dia_io.specs.declared.Input.{Input}
@@ -16,8 +16,9 @@ use Rattle.dia_report.specs.Refusals.{bad_input_text}
 use Rattle.dia_run.specs.RefusedDictionaries.{RefusesFirst}
 use Rattle.dia_run.specs.Texts.{line, IsDictionaryText, IsPlacedIn, IsSourceText}
 use Rattle.dia_refused_json.specs.Refusals.{bad_input_json, text_of}
-use Rattle.dia_lint.specs.Exact.{AreAscending, AreOf, AreOfMessages, IsNumbered, NoLevelIsExact, NoMessageIsExact, OthersHaveAvps, OthersHaveMessages, is_no_level, is_no_message, reported}
+use Rattle.dia_lint.specs.Exact.{AreAscending, AreNumbered, AreOf, AreOfMessages, NoLevelIsExact, NoMessageIsExact, OthersHaveAvps, OthersHaveMessages, is_no_level, is_no_message, reported}
 use Rattle.dia_lint.specs.GuidelineLines.{guideline_lines}
+use Rattle.dia_lint.specs.Held.{NeverHeldIsTrue, NeverListedIsTrue, NeverStandsIsTrue, NoOthersIsTrue, OthersAreHeld, OthersAreListed, OthersStand, OtherWildcardsStand}
 use Rattle.dia_lint.specs.OwnRules.{says_nothing_lines}
 use Rattle.dia_lint.specs.SameCommands.{AreSameCommands}
 use Rattle.dia_lint.specs.TwiceListed.{AreTwiceListed}
@@ -54,10 +55,14 @@ pub record AreFindings (d : Dictionary) (u : Unknown) (found : List Finding) : T
   pub others_have_avps : OthersHaveAvps d u exact
   pub messages_once : AreAscending (reported is_no_message exact)
   pub levels_once : AreAscending (reported is_no_level exact)
-
--- the code and the application of each command can be in a header (RFC 6733 section 3)
-abbrev pub AreNumbered : Dictionary → Type 0
-AreNumbered d = (i : ℕ) (command : PlainDefinition) → slice_get d.commands i ≡ Some command → IsNumbered command.head
+  pub never_held : NeverHeldIsTrue d u exact
+  pub never_listed : NeverListedIsTrue d exact
+  pub never_stands : NeverStandsIsTrue d u exact
+  pub no_others : NoOthersIsTrue d u exact
+  pub others_are_held : OthersAreHeld d u exact
+  pub others_are_listed : OthersAreListed d u exact
+  pub others_stand : OthersStand d u exact
+  pub other_wildcards_stand : OtherWildcardsStand d u exact
 
 -- ---- inputs that are refused
 
