@@ -15,5 +15,13 @@ pub mod Reasons
 pub mod Replies
 pub mod Building
 pub mod CerAnswers
+pub mod Groups
+pub mod Ways
+pub mod Nests
 pub mod OneStock
 pub mod Attempts
+pub mod OneAnswer
+pub mod Heads
+pub mod Shown
+pub mod OneFailed
+pub mod Writings
