@@ -1,7 +1,6 @@
 -- Which attempts make an answer.
 use Rattle.std.proofs.Common.{◌≡◌, ◌≢◌, ℕ, Bool, true, false, cond, List, [], ◌∷◌, ◌++◌, Option, Some, None, Result, Ok, Err, inl, inr, refl, sym, ap, subst, ◌∙◌}
-use Rattle.std.specs.Prelude.{◌⊎◌, ◌==◌, ◌/◌, IfOk, MatchOption, slice_get, map}
-use Rattle.std.specs.List.{AllByRecursion}
+use Rattle.std.specs.Prelude.{◌==◌, ◌/◌, IfOk, MatchOption, slice_get, map}
 use Rattle.std.proofs.lemmas.Bool.{eqb-true}
 use Rattle.std.proofs.lemmas.Option.{none-some, same_Some}
 use Rattle.dia_wire.specs.declared.Header.{Header}
@@ -16,15 +15,14 @@ use Rattle.dia_check.specs.declared.Refusal.{Refusal}
 use Rattle.dia_check.specs.declared.Refusal.TheVariants as refusal
 use Rattle.dia_answer.specs.declared.contents.Contents.{Contents}
 use Rattle.dia_answer.specs.declared.contents.Extent.{Extent}
-use Rattle.dia_answer.specs.declared.contents.Extent.TheVariants as extent
 use Rattle.dia_answer.specs.declared.forms.Form.{Form}
 use Rattle.dia_answer.specs.declared.forms.Form.TheVariants as form
 use Rattle.dia_answer.specs.declared.forms.Made.{Made}
 use Rattle.dia_answer.specs.Dictionaries.{opaque}
-use Rattle.dia_answer.specs.Bodies.{IsStock, Parts, in_order}
+use Rattle.dia_answer.specs.Bodies.{IsStock, in_order}
 use Rattle.dia_answer.specs.Requests.{AreBytes}
 use Rattle.dia_answer.specs.Sources.{in_extent, parts_of}
-use Rattle.dia_answer.specs.Reports.{AreTried, Attempt, HasNoneBy, IsAnswerBy, IsBy, IsByFirst, IsCommandOf, IsListed, IsOfForm, IsTried, IsWritten, answer_header, attempts_for, attempts_in, form_class, form_dictionary, forms_for}
+use Rattle.dia_answer.specs.Reports.{AreTried, Attempt, IsByFirst, IsListed, IsTried, IsWritten, answer_header, attempts_in, form_class, form_dictionary, forms_for}
 use Rattle.dia_answer.proofs.Messages.{one_message}
 use Rattle.dia_answer.proofs.OneStock.{one_stock}
 

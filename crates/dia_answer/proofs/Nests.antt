@@ -1,5 +1,5 @@
 -- The groups around a fault, written one in another.
-use Rattle.std.proofs.Common.{◌≡◌, ℕ, ◌+◌, ◌-◌, ◌<◌, ◌≤◌, List, [], ◌∷◌, ◌++◌, length, get_or, drop, Option, Some, None, refl, sym, ap, subst, ◌∙◌, append_assoc, append-nil, arith}
+use Rattle.std.proofs.Common.{◌≡◌, ℕ, ◌+◌, ◌-◌, ◌<◌, ◌≤◌, List, [], ◌∷◌, ◌++◌, length, get_or, drop, Option, Some, None, refl, sym, ap, subst, ◌∙◌, append_assoc, arith}
 use Rattle.std.specs.Option.{option_map_or}
 use Rattle.std.proofs.lemmas.List.{drop_all, drop_more, length-append, length-take}
 use Rattle.dia_wire.specs.Wire.{PlainAvp, avp_length, head_length, padded_length, plain_avp}
@@ -12,7 +12,7 @@ use Rattle.dia_answer.specs.declared.example.Example.{Example}
 use Rattle.dia_answer.specs.Examples.{plain_example}
 use Rattle.dia_answer.specs.declared.around.Step.{Step}
 use Rattle.dia_answer.specs.Failed.{PlainStep, BeginsBy, head_bytes, heads_length, nested, shown_bytes, wrapped}
-use Rattle.dia_answer.specs.Levels.{plain_step, plain_way}
+use Rattle.dia_answer.specs.Levels.{plain_way}
 
 length-head : (v : PlainAvp) (n : ℕ) → length (head_bytes v n) ≡ head_length v.vendor
 length-head v n = by v.vendor

@@ -1,5 +1,5 @@
 -- Bytes have one answer.
-use Rattle.std.proofs.Common.{◌≡◌, ◌≢◌, ℕ, ◌≤◌, List, [], ◌∷◌, ◌++◌, length, drop, get_or, Option, Some, None, Result, Ok, Err, inl, inr, refl, sym, ap, subst, ◌∙◌}
+use Rattle.std.proofs.Common.{◌≡◌, ◌≢◌, ℕ, List, [], ◌∷◌, drop, Some, Result, Ok, Err, inl, inr, refl, sym, ap, subst, ◌∙◌}
 use Rattle.std.specs.Prelude.{◌⊎◌, IfOk, slice_get}
 use Rattle.std.specs.List.{AllByRecursion}
 use Rattle.std.specs.declared.alloc.AllocError.{AllocError}
@@ -24,7 +24,7 @@ use Rattle.dia_answer.specs.Bodies.{IsStock, Parts, in_order}
 use Rattle.dia_answer.specs.Failed.{IsFailed}
 use Rattle.dia_answer.specs.Requests.{AreRequestAvps, IsRequestHead}
 use Rattle.dia_answer.specs.Sources.{in_extent}
-use Rattle.dia_answer.specs.Reports.{AreParts, AreSame, Attempt, HasFirstForm, HasNoForm, HasNoneBy, IsAnswered, IsByFirst, IsCommandOf, IsDue, IsNoAnswer, IsOfForm, IsRequest, answer_header, attempts_for, form_dictionary}
+use Rattle.dia_answer.specs.Reports.{AreParts, AreSame, Attempt, HasNoForm, HasNoneBy, IsAnswered, IsByFirst, IsCommandOf, IsDue, IsNoAnswer, IsOfForm, IsRequest, answer_header, attempts_for, form_dictionary}
 use Rattle.dia_answer.proofs.OneFailed.{one_failed, one_front}
 use Rattle.dia_answer.proofs.OneStock.{one_stock}
 use Rattle.dia_answer.proofs.Reasons.{answer_reason, no_reason, one_reason, short_reason, unmade}

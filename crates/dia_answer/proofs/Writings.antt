@@ -1,11 +1,11 @@
 -- A message is spelled by one list of bytes, where its padding is zero.
-use Rattle.std.proofs.Common.{◌≡◌, ℕ, suc, ◌+◌, ◌*◌, ◌%◌, ◌<◌, List, [], ◌∷◌, ◌++◌, length, take, get_or, Option, Some, None, refl, sym, ap, subst, ◌∙◌, arith}
+use Rattle.std.proofs.Common.{◌≡◌, ℕ, suc, ◌+◌, ◌*◌, ◌<◌, List, [], ◌∷◌, ◌++◌, length, get_or, Option, Some, None, refl, sym, ap, subst, ◌∙◌, arith}
 use Rattle.std.specs.List.{AllByRecursion}
 use Rattle.std.proofs.lemmas.List.{length-append}
 use Rattle.std.proofs.lemmas.List.Elements.{recursion_from_All}
 use Rattle.dia_wire.specs.declared.Header.{Header}
 use Rattle.dia_wire.specs.Number.{number, IsField}
-use Rattle.dia_wire.specs.Wire.{PlainAvp, avp_length, IsVendorField, SpellsWithZeros, SpellsAllWithZeros, IsHead, IsMessage, MessageWithZeros}
+use Rattle.dia_wire.specs.Wire.{PlainAvp, avp_length, IsVendorField, SpellsWithZeros, SpellsAllWithZeros, IsHead, MessageWithZeros}
 use Rattle.dia_wire.proofs.Spelling.{opened}
 use Rattle.dia_answer.specs.Requests.{AreBytes}
 use Rattle.dia_answer.proofs.Messages.{head_size}

@@ -1,5 +1,5 @@
 -- The data of Failed-AVP (RFC 6733 sections 7.1.5 and 7.5): the known groups around the fault, each with its head and one member, and in the innermost the AVP that shows the fault.
-use Rattle.std.specs.Prelude.{◌≡◌, ℕ, ◌+◌, ◌-◌, ◌==◌, ◌&&◌, nat_lt, nat_le, bit_and, bit_or, Bool, true, false, not, if◌then◌else◌, List, [], ◌∷◌, ◌++◌, length, take, drop, map, find, count_by, replicate, slice_index}
+use Rattle.std.specs.Prelude.{◌≡◌, ℕ, ◌+◌, ◌-◌, ◌==◌, ◌&&◌, nat_lt, nat_le, bit_and, bit_or, Bool, false, not, if◌then◌else◌, List, [], ◌∷◌, ◌++◌, length, take, drop, find, count_by, replicate, slice_index}
 use Rattle.std.specs.Prelude.{Option, Some, None, MatchOption, unwrap_or, option_and_then, slice_get}
 use Rattle.std.specs.Option.{option_map, option_map_or, option_or}
 use Rattle.byteorder.specs.Endian.{big_bytes}

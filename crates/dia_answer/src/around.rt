@@ -177,10 +177,7 @@ fn least_count(rules: &[DRule], subject: Subject) -> usize
 fn rule_of(rules: &[DRule], subject: Subject) -> Option<DRule>
     ensures { result ≡ find (is_rule_of subject) rules.now }
 {
-    rules
-        .iter()
-        .copied()
-        .find(|rule| is_rule_of(subject, rule))
+    rules.iter().copied().find(|rule| is_rule_of(subject, rule))
 }
 
 fn is_rule_of(subject: Subject, rule: &DRule) -> bool

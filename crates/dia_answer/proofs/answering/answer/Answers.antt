@@ -1,5 +1,4 @@
 use Rattle.std.proofs.Common.{◌≡◌, ◌<◌, ◌^◌, Ok, Err, Some, refl, sym, ap, subst}
-use Rattle.std.specs.Prelude.{string_bytes}
 use Rattle.dia_wire.specs.declared.Header.{Header}
 use Rattle.dia_wire.specs.Number.{IsField}
 use Rattle.dia_wire.specs.Wire.{HasR}
@@ -7,14 +6,12 @@ use Rattle.dia_check.specs.declared.Fault.{Fault}
 use Rattle.dia_check.specs.declared.Refusal.{Refusal}
 use Rattle.dia_check.specs.declared.Refusal.TheVariants.{Trailing, Truncated}
 use Rattle.dia_check.specs.Faults.{IsAnswer, IsRecorded}
-use Rattle.dia_run.specs.Texts.{line}
-use Rattle.dia_run.specs.Verdict.{fault_line}
 use Rattle.dia_answer.specs.declared.forms.Made.{Made}
 use Rattle.dia_answer.specs.declared.forms.NoAnswer.TheVariants as no_answer
 use Rattle.dia_answer.specs.declared.names.Names.{Names}
 use Rattle.dia_answer.specs.Bodies.{origin_host, origin_realm, result_code}
 use Rattle.dia_answer.specs.Helds.{plains}
-use Rattle.dia_answer.specs.Requests.{AreRequestAvps, IsRequestHead}
+use Rattle.dia_answer.specs.Requests.{AreRequestAvps}
 use Rattle.dia_answer.specs.Reports.{AreTried, HasBody, HasCopies, HasFailed, HasFirstForm, HasOne, IsAnswerOf, IsAnswered, IsProcessed, IsValidBy, attempts_for, form_dictionary}
 use Rattle.dia_answer.proofs.Answers.{OnMade-map, made_is_valid}
 use Rattle.dia_answer.proofs.Results.{answered_of, are_contents, made_body, made_copies, made_failed, made_first, made_origin_host, made_origin_realm, made_processed, made_result_code, on_too_long, recorded_code}

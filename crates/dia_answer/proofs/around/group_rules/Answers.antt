@@ -1,6 +1,6 @@
 use Rattle.std.proofs.Common.{sym, ◌∙◌}
 use Rattle.dia_book.specs.Dictionary.{plain_definition}
-use Rattle.dia_answer.proofs.Groups.{group_within, known_rules, no_group_rules, unknown_rules}
+use Rattle.dia_answer.proofs.Groups.{group_within, known_rules}
 use Rattle.dia_answer.proofs.around.group_rules.Goals as goal
 
 pub def-requires : goal.def-requires

@@ -1,7 +1,7 @@
 use Rattle.std.proofs.Common.{List, ℕ, ◌++◌, sym, ap, arith}
 use Rattle.std.specs.Option.{option_map}
 use Rattle.dia_wire.specs.Wire.{plain_avp}
-use Rattle.dia_answer.specs.Failed.{heads_length, nested, shown_bytes}
+use Rattle.dia_answer.specs.Failed.{nested, shown_bytes}
 use Rattle.dia_answer.specs.Levels.{plain_way}
 use Rattle.dia_answer.proofs.Nests.{added_heads, heads_fit, nest_left, nest_more}
 use Rattle.dia_answer.proofs.failed.wrapped.Goals as goal

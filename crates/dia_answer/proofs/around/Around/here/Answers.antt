@@ -1,7 +1,7 @@
 use Rattle.std.proofs.Common.{◌-◌, List, length, sym, ap, ◌∙◌}
 use Rattle.std.specs.Prelude.{slice_get}
 use Rattle.dia_answer.specs.declared.around.Step.{Step}
-use Rattle.dia_answer.specs.Failed.{PlainLevel, here}
+use Rattle.dia_answer.specs.Failed.{here}
 use Rattle.dia_answer.specs.Levels.{plain_level}
 use Rattle.dia_answer.proofs.Ways.{innermost_last}
 use Rattle.dia_answer.proofs.around.Around.here.Goals as goal
