@@ -60,18 +60,12 @@ pub nest_left : (groups : List Step) (s : Step) (i n k : ℕ) (inner : List ℕ)
     → n - k ≡ length (nested (plain_way (drop (i + 1) groups)) inner)
 nest_left groups s i n k inner within is size head = let e = nest_size groups s i n inner within is size in omega (arith, e, head)
 
-pub nest_enough : (groups : List Step) (s : Step) (i n k : ℕ) (inner : List ℕ) → i < length groups → s ≡ get_or groups i s → n ≡ length (nested (plain_way (drop i groups)) inner) → k ≡ head_length s.group.vendor → k ≤ n
-nest_enough groups s i n k inner within is size head = let e = nest_size groups s i n inner within is size in omega (arith, e, head)
-
 pub nest_more : (groups : List Step) (s : Step) (i n : ℕ) (inner all out new : List ℕ) → all ≡ out ++ nested (plain_way (drop i groups)) inner → i < length groups → s ≡ get_or groups i s
     → n ≡ length (nested (plain_way (drop i groups)) inner) → new ≡ out ++ head_bytes (plain_avp s.group) n → all ≡ new ++ nested (plain_way (drop (i + 1) groups)) inner
 nest_more groups s i n inner all out new so_far within is size pushed =
     let rest = nested (plain_way (drop (i + 1) groups)) inner in
     so_far ∙ ap (λ (x : List ℕ). out ++ x) (nest_rest groups s i inner within is) ∙ sym (append_assoc out (head_bytes (plain_avp s.group) (head_length s.group.vendor + length rest)) rest)
     ∙ ap (λ (m : ℕ). (out ++ head_bytes (plain_avp s.group) m) ++ rest) (sym (nest_size groups s i n inner within is size)) ∙ ap (λ (x : List ℕ). x ++ rest) (sym pushed)
-
-pub nest_end : (groups : List Step) (i : ℕ) (inner all out : List ℕ) → all ≡ out ++ nested (plain_way (drop i groups)) inner → length groups ≤ i → all ≡ out ++ inner
-nest_end groups i inner all out so_far end = so_far ∙ ap (λ (xs : List Step). out ++ nested (plain_way xs) inner) (drop_all i groups end)
 
 -- ---- the AVP that shows the fault
 
@@ -98,10 +92,3 @@ pub example_small : (e : Example) (v : PlainAvp) → v ≡ plain_example e → l
 example_small e v same =
     let few : length v.bytes ≤ 8 = subst (λ (x : PlainAvp). length x.bytes ≤ 8) (sym same) (least_most e.least) in
     let size = length-avp_bytes v in omega (arith, size, few, head_most v.vendor)
-
--- ---- what is wrapped
-
-pub wrapped_some : (groups : List PlainStep) (shown : Option PlainAvp) → (groups ≡ [] → shown ≡ None → ⊥) → wrapped groups shown ≡ Some (nested groups (shown_bytes shown))
-wrapped_some [] None h = absurd (h refl refl)
-wrapped_some [] (Some v) h = refl
-wrapped_some (s ∷ groups) shown h = refl

@@ -68,67 +68,6 @@ last_passes p (t ∷ way) s passes = ap (kept (p t.level) t) (last_passes p way 
     by false [] = refl
     by false (w ∷ ws) = refl
 
--- ---- going through the AVPs of a level
-
-enter_rest : (d : Dictionary) (n m i : ℕ) (avps : List Held) (v : Held) → entered_in d n (plains avps) ≡ entered_in d m (plains (drop i avps)) → i < length avps → v ≡ get_or avps i v
-    → entered_in d n (plains avps) ≡ option_or (entered d m (plain_held v)) (entered_in d (m - padded_length (plain_held v)) (plains (drop (i + 1) avps)))
-enter_rest d n m i avps v so_far within is =
-    so_far ∙ ap (λ (xs : List Held). entered_in d m (plains xs)) (drop_more avps i v within ∙ ap (λ (w : Held). w ∷ drop (i + 1) avps) (sym is))
-
-pub enter_found : (d : Dictionary) (n m i : ℕ) (avps : List Held) (v : Held) (x : PlainInside) → entered_in d n (plains avps) ≡ entered_in d m (plains (drop i avps)) → i < length avps → v ≡ get_or avps i v
-    → Some x ≡ entered d m (plain_held v) → Some x ≡ entered_in d n (plains avps)
-enter_found d n m i avps v x so_far within is found =
-    ap (λ (o : Option PlainInside). option_or o (entered_in d (m - padded_length (plain_held v)) (plains (drop (i + 1) avps)))) found ∙ sym (enter_rest d n m i avps v so_far within is)
-
-pub enter_more : (d : Dictionary) (n m i k : ℕ) (avps : List Held) (v : Held) → entered_in d n (plains avps) ≡ entered_in d m (plains (drop i avps)) → i < length avps → v ≡ get_or avps i v → None ≡ entered d m (plain_held v)
-    → k ≡ padded_length (plain_held v) → entered_in d n (plains avps) ≡ entered_in d (m - k) (plains (drop (i + 1) avps))
-enter_more d n m i k avps v so_far within is none size =
-    enter_rest d n m i avps v so_far within is ∙ ap (λ (o : Option PlainInside). option_or o (entered_in d (m - padded_length (plain_held v)) (plains (drop (i + 1) avps)))) (sym none)
-    ∙ ap (λ (j : ℕ). entered_in d (m - j) (plains (drop (i + 1) avps))) (sym size)
-
-pub enter_none : (d : Dictionary) (n m i : ℕ) (avps : List Held) → entered_in d n (plains avps) ≡ entered_in d m (plains (drop i avps)) → length avps ≤ i → None ≡ entered_in d n (plains avps)
-enter_none d n m i avps so_far end = sym (so_far ∙ ap (λ (xs : List Held). entered_in d m (plains xs)) (drop_all i avps end))
-
--- ---- counting those that begin before a place
-
-abbrev count_of : (PlainAvp → Bool) → ℕ → List Held → ℕ
-count_of p n avps = count_by p (begun n (plains avps))
-
-begun_rest : (p : PlainAvp → Bool) (n i : ℕ) (avps : List Held) (v : Held) → 0 < n → i < length avps → v ≡ get_or avps i v
-    → count_of p n (drop i avps) ≡ cond (p (plain_held v)) 1 0 + count_of p (n - padded_length (plain_held v)) (drop (i + 1) avps)
-begun_rest p n i avps v some within is =
-    ap (λ (xs : List Held). count_of p n xs) (drop_more avps i v within ∙ ap (λ (w : Held). w ∷ drop (i + 1) avps) (sym is))
-    ∙ ap (λ (b : Bool). count_by p (cond b (plain_held v ∷ begun (n - padded_length (plain_held v)) (plains (drop (i + 1) avps))) [])) (lt-ltb 0 n some)
-    ∙ count_cons p (plain_held v) (begun (n - padded_length (plain_held v)) (plains (drop (i + 1) avps)))
-
-pub count_one : (p : PlainAvp → Bool) (n k i count total : ℕ) (avps : List Held) (v : Held) (b : Bool) → count + count_of p n (drop i avps) ≡ total → ¬ (n ≡ 0) → i < length avps → v ≡ get_or avps i v
-    → b ≡ p (plain_held v) → b ≡ true → k ≡ padded_length (plain_held v) → (count + 1) + count_of p (n - k) (drop (i + 1) avps) ≡ total
-count_one p n k i count total avps v b so_far some within is counts passes size =
-    let rest = begun_rest p n i avps v (omega (arith, some)) within is in
-    let one : cond (p (plain_held v)) (suc zero) zero ≡ suc zero = ap (λ (c : Bool). cond c (suc zero) zero) (sym counts ∙ passes) in
-    let same : count_of p (n - k) (drop (i + 1) avps) ≡ count_of p (n - padded_length (plain_held v)) (drop (i + 1) avps) = ap (λ (j : ℕ). count_of p (n - j) (drop (i + 1) avps)) size in
-    omega (arith, so_far, rest, one, same)
-
-pub count_no : (p : PlainAvp → Bool) (n k i count total : ℕ) (avps : List Held) (v : Held) (b : Bool) → count + count_of p n (drop i avps) ≡ total → ¬ (n ≡ 0) → i < length avps → v ≡ get_or avps i v
-    → b ≡ p (plain_held v) → b ≡ false → k ≡ padded_length (plain_held v) → count + count_of p (n - k) (drop (i + 1) avps) ≡ total
-count_no p n k i count total avps v b so_far some within is counts fails size =
-    let rest = begun_rest p n i avps v (omega (arith, some)) within is in
-    let none : cond (p (plain_held v)) (suc zero) zero ≡ zero = ap (λ (c : Bool). cond c (suc zero) zero) (sym counts ∙ fails) in
-    let same : count_of p (n - k) (drop (i + 1) avps) ≡ count_of p (n - padded_length (plain_held v)) (drop (i + 1) avps) = ap (λ (j : ℕ). count_of p (n - j) (drop (i + 1) avps)) size in
-    omega (arith, so_far, rest, none, same)
-
-pub count_end : (p : PlainAvp → Bool) (n i count total : ℕ) (avps : List Held) → count + count_of p n (drop i avps) ≡ total → length avps ≤ i → count ≡ total
-count_end p n i count total avps so_far end =
-    let none : count_of p n (drop i avps) ≡ 0 = ap (λ (xs : List Held). count_of p n xs) (drop_all i avps end) in omega (arith, so_far, none)
-
-pub count_done : (p : PlainAvp → Bool) (n i count total : ℕ) (avps : List Held) → count + count_of p n (drop i avps) ≡ total → n ≡ 0 → count ≡ total
-count_done p n i count total avps so_far done =
-    let none : count_of p n (drop i avps) ≡ 0 = ap (λ (m : ℕ). count_of p m (drop i avps)) done ∙ by (plains (drop i avps)) in omega (arith, so_far, none)
-  where
-    by : (vs : List PlainAvp) → count_by p (begun 0 vs) ≡ 0
-    by [] = refl
-    by (v ∷ vs) = refl
-
 -- ---- the groups that are left out
 
 last_there : {X : Type 0} (xs : List X) (x : X) → slice_get (xs ++ x ∷ []) (length (xs ++ x ∷ []) - 1) ≡ Some x
@@ -156,10 +95,6 @@ leave_end p all way s so_far last passes =
     let front = take (length way - 1) way in
     let parts : plain_way way ≡ plain_way front ++ plain_step s ∷ [] = ap plain_way (split_last way s last) ∙ map-append plain_step front (s ∷ []) in
     parts ∙ sym (last_passes p (plain_way front) (plain_step s) passes) ∙ ap (up_to p) (sym parts) ∙ sym so_far
-
-pub leave_none : (p : PlainLevel → Bool) (all : List PlainStep) (way : List Step) → all ≡ up_to p (plain_way way) → None ≡ slice_get way (length way - 1) → plain_way way ≡ all
-leave_none p all [] so_far last = sym so_far
-leave_none p all (s ∷ way) so_far last = absurd (none-some (get_or (s ∷ way) (length (s ∷ way) - 1) s) (last ∙ slice_get-get_or (s ∷ way) (length (s ∷ way) - 1) s (omega arith)))
 
 -- ---- how many bytes the groups take
 
@@ -229,10 +164,6 @@ pub innermost_last : (l : PlainLevel) (way : List Step) (s : Step) → Some s �
 innermost_last l way s last =
     let front = take (length way - 1) way in
     ap (innermost l) (ap plain_way (split_last way s last) ∙ map-append plain_step front (s ∷ [])) ∙ innermost_push l (plain_way front) (plain_step s)
-
-pub innermost_none : (l : PlainLevel) (way : List Step) → None ≡ slice_get way (length way - 1) → innermost l (plain_way way) ≡ l
-innermost_none l [] last = refl
-innermost_none l (s ∷ way) last = absurd (none-some (get_or (s ∷ way) (length (s ∷ way) - 1) s) (last ∙ slice_get-get_or (s ∷ way) (length (s ∷ way) - 1) s (omega arith)))
 
 -- ---- each group is within the one around it
 
