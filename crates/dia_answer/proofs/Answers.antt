@@ -1,9 +1,7 @@
 -- What is answered, by what its parts answer.
-use Rattle.std.proofs.Common.{◌≡◌, ℕ, List, Option, Some, None, Result, Ok, Err, refl, sym, ap, subst, ◌∙◌}
-use Rattle.std.specs.Prelude.{IfOk, IfSome, slice_get}
+use Rattle.std.proofs.Common.{◌≡◌, ℕ, List, Some, Result, Ok, Err, refl, sym, ap, subst, ◌∙◌}
+use Rattle.std.specs.Prelude.{slice_get}
 use Rattle.std.specs.declared.alloc.AllocError.{AllocError}
-use Rattle.dia_wire.specs.declared.Header.{Header}
-use Rattle.dia_wire.specs.Wire.{PlainAvp, MessageWithZeros}
 use Rattle.dia_book.specs.declared.Class.{Class}
 use Rattle.dia_book.specs.declared.DRule.{DRule}
 use Rattle.dia_book.specs.Dictionary.{Dictionary, IsDictionary, PlainDefinition, definitions, selected}
@@ -17,9 +15,7 @@ use Rattle.dia_answer.specs.declared.forms.Form.{Form}
 use Rattle.dia_answer.specs.declared.forms.Made.{Made}
 use Rattle.dia_answer.specs.declared.forms.NoAnswer.{NoAnswer}
 use Rattle.dia_answer.specs.Dictionaries.{opaque}
-use Rattle.dia_answer.specs.Bodies.{IsStock, in_order}
-use Rattle.dia_answer.specs.Sources.{in_extent, parts_of}
-use Rattle.dia_answer.specs.Reports.{IsAnswerBy, IsAnswerOf, IsFormFor, IsListed, IsValidBy, IsWritten, OnMade, answer_header, form_class, form_dictionary}
+use Rattle.dia_answer.specs.Reports.{IsAnswerBy, IsAnswerOf, IsFormFor, IsValidBy, IsWritten, OnMade, form_class, form_dictionary}
 
 pub OnMade-map : (P Q : Made → Type 0) → ((made : Made) → P made → Q made) → (r : Result (Result Made NoAnswer) AllocError) → OnMade P r → OnMade Q r
 OnMade-map P Q h (Ok (Ok made)) p = h made p

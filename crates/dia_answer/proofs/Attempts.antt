@@ -1,7 +1,6 @@
 -- Which attempts make an answer.
 use Rattle.std.proofs.Common.{◌≡◌, ◌≢◌, ℕ, Bool, true, false, cond, List, [], ◌∷◌, ◌++◌, Option, Some, None, Result, Ok, Err, inl, inr, refl, sym, ap, subst, ◌∙◌}
-use Rattle.std.specs.Prelude.{◌⊎◌, ◌==◌, ◌/◌, IfOk, MatchOption, slice_get, map}
-use Rattle.std.specs.List.{AllByRecursion}
+use Rattle.std.specs.Prelude.{◌==◌, ◌/◌, IfOk, MatchOption, slice_get, map}
 use Rattle.std.proofs.lemmas.Bool.{eqb-true}
 use Rattle.std.proofs.lemmas.Option.{none-some, same_Some}
 use Rattle.dia_wire.specs.declared.Header.{Header}
@@ -16,14 +15,14 @@ use Rattle.dia_check.specs.declared.Refusal.{Refusal}
 use Rattle.dia_check.specs.declared.Refusal.TheVariants as refusal
 use Rattle.dia_answer.specs.declared.contents.Contents.{Contents}
 use Rattle.dia_answer.specs.declared.contents.Extent.{Extent}
-use Rattle.dia_answer.specs.declared.contents.Extent.TheVariants as extent
 use Rattle.dia_answer.specs.declared.forms.Form.{Form}
 use Rattle.dia_answer.specs.declared.forms.Form.TheVariants as form
 use Rattle.dia_answer.specs.declared.forms.Made.{Made}
 use Rattle.dia_answer.specs.Dictionaries.{opaque}
-use Rattle.dia_answer.specs.Bodies.{IsStock, Parts, in_order}
+use Rattle.dia_answer.specs.Bodies.{IsStock, in_order}
+use Rattle.dia_answer.specs.Requests.{AreBytes}
 use Rattle.dia_answer.specs.Sources.{in_extent, parts_of}
-use Rattle.dia_answer.specs.Reports.{AreTried, Attempt, HasNoneBy, IsAnswerBy, IsBy, IsByFirst, IsCommandOf, IsListed, IsOfForm, IsTried, IsWritten, answer_header, attempts_for, attempts_in, form_class, form_dictionary, forms_for}
+use Rattle.dia_answer.specs.Reports.{AreTried, Attempt, IsByFirst, IsListed, IsTried, IsWritten, answer_header, attempts_in, form_class, form_dictionary, forms_for}
 use Rattle.dia_answer.proofs.Messages.{one_message}
 use Rattle.dia_answer.proofs.OneStock.{one_stock}
 
@@ -69,20 +68,21 @@ none_invalid d f rules e c h stock avps bytes is order header message other b w 
 
 -- a message of these AVPs, if it is valid
 pub written_by : {X E : Type 0} (items : X → List ℕ) (d : Dictionary) (f : Form) (rules : List DRule) (e : Extent) (c : Contents) (h : Header) (stock avps : List PlainAvp) (bytes : List ℕ) → IsStock d f rules (in_extent e (parts_of c)) stock
-    → IsListed f rules stock → avps ≡ in_order rules stock → h ≡ answer_header c.header f → ¬ IsTooLong avps → MessageWithZeros h avps bytes
+    → IsListed f rules stock → avps ≡ in_order rules stock → h ≡ answer_header c.header f → ¬ IsTooLong avps → MessageWithZeros h avps bytes → AreBytes bytes
     → (r : Result (Option X) E) → IfOk r (λ found. MatchOption found (¬ IsValid (opaque d) c.unknown c.levels bytes) (λ same. (items same ≡ bytes) × IsValid (opaque d) c.unknown c.levels bytes))
     → IfOk r (λ found. MatchOption found (NoneWritten d f rules e c) (λ b. IsWritten d f rules e c (items b)))
-written_by items d f rules e c h stock avps bytes is_stock listed order header room message (Ok (Some b)) (same, valid) = record {
+written_by items d f rules e c h stock avps bytes is_stock listed order header room message are (Ok (Some b)) (same, valid) = record {
   stock = stock;
   is_stock = is_stock;
   listed = listed;
   room = subst (λ (vs : List PlainAvp). ¬ IsTooLong vs) order room;
   message = subst (λ (x : List ℕ). MessageWithZeros (answer_header c.header f) (in_order rules stock) x) (sym same)
       (subst (λ (k : Header). MessageWithZeros k (in_order rules stock) bytes) header (subst (λ (vs : List PlainAvp). MessageWithZeros h vs bytes) order message));
+  are_bytes = subst AreBytes (sym same) are;
   valid = subst (λ (x : List ℕ). IsValid (opaque d) c.unknown c.levels x) (sym same) valid;
 }
-written_by items d f rules e c h stock avps bytes is_stock listed order header room message (Ok None) other = none_invalid d f rules e c h stock avps bytes is_stock order header message.message other
-written_by items d f rules e c h stock avps bytes is_stock listed order header room message (Err x) p = tt
+written_by items d f rules e c h stock avps bytes is_stock listed order header room message are (Ok None) other = none_invalid d f rules e c h stock avps bytes is_stock order header message.message other
+written_by items d f rules e c h stock avps bytes is_stock listed order header room message are (Err x) p = tt
 
 -- ---- of a form
 
@@ -99,7 +99,7 @@ none_by d c f e class i def rules is select at same none bytes o =
     let here : Some i ≡ selected d c.header.code (form_class f) c.header.app = select ∙ ap (λ (k : Class). selected d c.header.code k c.header.app) is in
     let command : o.command ≡ def = the_rules d i o.is_command.0 def o.command (selected d c.header.code (form_class f) c.header.app) here at o.is_command.1 o.is_command.2 in
     let rules_are : o.command.rules ≡ rules = ap (λ (x : PlainDefinition). x.rules) command ∙ sym same in
-    let w : IsWritten d f o.command.rules e c bytes = record { stock = o.avps; is_stock = o.are_avps; listed = o.listed; room = o.room; message = o.message; valid = o.valid } in
+    let w : IsWritten d f o.command.rules e c bytes = record { stock = o.avps; is_stock = o.are_avps; listed = o.listed; room = o.room; message = o.message; are_bytes = o.are_bytes; valid = o.valid } in
     none bytes (subst (λ (rs : List DRule). IsWritten d f rs e c bytes) rules_are w)
 
 pub some_by : (d : Dictionary) (c : Contents) (f : Form) (e : Extent) (made : Made) (class : Class) (i : ℕ) (def : PlainDefinition) (rules : List DRule) → made.fault ≡ c.fault → made.form ≡ f → class ≡ form_class f
@@ -116,6 +116,7 @@ some_by d c f e made class i def rules fault form is select at same written =
         listed = w.listed;
         room = w.room;
         message = w.message;
+        are_bytes = w.are_bytes;
         valid = w.valid;
       },
     )

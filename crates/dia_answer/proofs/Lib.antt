@@ -15,6 +15,9 @@ pub mod Reasons
 pub mod Replies
 pub mod Building
 pub mod CerAnswers
+pub mod Groups
+pub mod Ways
+pub mod Nests
 pub mod OneStock
 pub mod Attempts
 pub mod Strict
@@ -23,3 +26,8 @@ pub mod SpelledAnswers
 pub mod ErrorFits
 pub mod ErrorLevels
 pub mod OwnErrors
+pub mod OneAnswer
+pub mod Heads
+pub mod Shown
+pub mod OneFailed
+pub mod Writings

@@ -23,7 +23,7 @@ one_list (v ∷ vs) (w ∷ ws) b (f, x, s, p, all) (g, y, t, q, also) =
     let later : vs ≡ ws = one_list vs ws x all (subst (SpellsAll ws) (sym rests) also) in
     λ i. o.0 i ∷ later i
 
-head_size : {h : Header} {n : ℕ} (b : List ℕ) → IsHead h n b → length b ≡ 20
+pub head_size : {h : Header} {n : ℕ} (b : List ℕ) → IsHead h n b → length b ≡ 20
 head_size {h} b s =
     ap length s.parts ∙ (let a = length-append ((1 ∷ s.len) ++ (h.flags ∷ s.code) ++ s.app ++ s.hop) s.e2e in let c = length-append ((1 ∷ s.len) ++ (h.flags ∷ s.code) ++ s.app) s.hop in
     let d = length-append ((1 ∷ s.len) ++ (h.flags ∷ s.code)) s.app in let e = length-append (1 ∷ s.len) (h.flags ∷ s.code) in

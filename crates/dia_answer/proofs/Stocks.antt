@@ -135,3 +135,32 @@ the_session d f rules p avps s = by_parts d f rules p avps s session_id refl ref
 
 pub the_proxies : (d : Dictionary) (f : Form) (rules : List DRule) (p : Parts) (avps : List PlainAvp) (s : IsStock d f rules p avps) → of_key proxy_info avps ≡ map copied s.proxies
 the_proxies d f rules p avps s = by_parts d f rules p avps s proxy_info refl refl refl
+
+-- ---- Failed-AVP
+
+of_failed_avp : (d : Dictionary) (f : Form) (rules : List DRule) (failed : Option (List ℕ)) → of_key failed_avp (failed_avps d f rules failed) ≡ failed_avps d f rules failed
+of_failed_avp d f rules None = refl
+of_failed_avp d f rules (Some bytes) = by (has_format is_nest d failed_avp && may_fail f rules)
+  where
+    by : (b : Bool) → of_key failed_avp (cond b (own d 279 bytes ∷ []) []) ≡ cond b (own d 279 bytes ∷ []) []
+    by true = refl
+    by false = refl
+
+pub the_failed : (d : Dictionary) (f : Form) (rules : List DRule) (p : Parts) (avps : List PlainAvp) → IsStock d f rules p avps → of_key failed_avp avps ≡ failed_avps d f rules p.failed
+the_failed d f rules p avps s =
+    let q : PlainAvp → Bool = λ v. same_key failed_avp (key_of v) in
+    let owns : List PlainAvp = own d 268 p.code ∷ own d 264 p.host ∷ own d 296 p.realm ∷ [] in
+    let message = error_messages d rules p.line in
+    let failed = failed_avps d f rules p.failed in
+    let copies = map copied s.copies in
+    let proxies = map copied s.proxies in
+    ap (of_key failed_avp) s.parts ∙ filter-append q (s.session ++ owns ++ message ++ failed ++ copies) proxies
+    ∙ ap (λ (vs : List PlainAvp). of_key failed_avp (s.session ++ owns ++ message ++ failed ++ copies) ++ vs)
+    (of_rule proxy_info (same_key failed_avp) proxies (all_of d p.unknown p.levels proxy_info p.request s.proxies s.are_proxies)) ∙ append-nil _
+    ∙ filter-append q (s.session ++ owns ++ message ++ failed) copies
+    ∙ ap (λ (vs : List PlainAvp). of_key failed_avp (s.session ++ owns ++ message ++ failed) ++ vs) (of_copies d p.unknown p.levels p.request f rules s.copies failed_avp refl s.are_copies) ∙ append-nil _
+    ∙ filter-append q (s.session ++ owns ++ message) failed
+    ∙ ap (λ (vs : List PlainAvp). vs ++ of_key failed_avp failed) (filter-append q (s.session ++ owns) message
+    ∙ ap (λ (vs : List PlainAvp). of_key failed_avp (s.session ++ owns) ++ vs) (of_messages d rules p.line failed_avp refl) ∙ append-nil _
+    ∙ filter-append q s.session owns ∙ ap (λ (vs : List PlainAvp). vs ++ of_key failed_avp owns) (of_session d p.request s.session failed_avp s.is_session))
+    ∙ of_failed_avp d f rules p.failed

@@ -3,6 +3,9 @@ pub mod Requests
 pub mod Contents
 pub mod Stocks
 pub mod Helds
+pub mod Failed
+pub mod Levels
+pub mod Examples
 pub mod Bodies
 pub mod Sources
 pub mod Reports

@@ -1,10 +1,10 @@
 -- The answer to a request that reports its first fault (RFC 6733 sections 6.2, 7.1.5 and 7.2).
-use Rattle.std.specs.Prelude.{◌≡◌, ℕ, ◌/◌, ◌<◌, ◌==◌, ◌⊎◌, bit_and, bit_or, true, if◌then◌else◌, List, [], ◌∷◌, ◌++◌, length, map, IfOk, Option, Some, None, Result, codes, Err, slice_get, ⊤}
+use Rattle.std.specs.Prelude.{◌≡◌, ℕ, ◌/◌, ◌<◌, ◌==◌, ◌⊎◌, bit_and, bit_or, true, if◌then◌else◌, List, [], ◌∷◌, ◌++◌, length, map, IfOk, Option, Some, None, Result, codes, Ok, Err, slice_get, ⊤}
 use Rattle.std.specs.List.{list_all, AllByRecursion}
 use Rattle.std.specs.Str.{IsUtf8}
+use Rattle.byteorder.specs.Endian.{big_bytes}
 use Rattle.dia_wire.specs.declared.Key.{Key}
 use Rattle.dia_wire.specs.declared.Header.{Header}
-use Rattle.dia_wire.specs.Number.{IsField}
 use Rattle.dia_wire.specs.Wire.{PlainAvp, HasR, IsMessage, IsTooLong, MessageWithZeros}
 use Rattle.dia_book.specs.declared.Class.{Class}
 use Rattle.dia_book.specs.declared.Class.TheVariants.{Answer, Error}
@@ -29,10 +29,12 @@ use Rattle.dia_answer.specs.declared.contents.Extent.{Extent}
 use Rattle.dia_answer.specs.declared.contents.Extent.TheVariants as extent
 use Rattle.dia_answer.specs.declared.forms.NoAnswer.{NoAnswer}
 use Rattle.dia_answer.specs.declared.forms.NoAnswer.TheVariants as no_answer
-use Rattle.dia_answer.specs.Dictionaries.{opaque}
-use Rattle.dia_answer.specs.Requests.{AreRequestAvps, IsOfHeader, IsRequestHead}
+use Rattle.dia_answer.specs.Contents.{full}
+use Rattle.dia_answer.specs.Dictionaries.{failed_avp, opaque}
+use Rattle.dia_answer.specs.Failed.{IsFailed}
+use Rattle.dia_answer.specs.Requests.{AreBytes, AreRequestAvps, IsRequestHead}
 use Rattle.dia_answer.specs.Stocks.{IsFitOf, copied, may_be_unlisted}
-use Rattle.dia_answer.specs.Bodies.{AreThose, IsSession, IsStock, Parts, in_order, of_key, proxy_info, session_id}
+use Rattle.dia_answer.specs.Bodies.{AreThose, IsSession, IsStock, Parts, failed_avps, in_order, of_key, proxy_info, session_id}
 use Rattle.dia_answer.specs.Sources.{in_extent, parts_of}
 
 -- the class of a form's messages
@@ -101,15 +103,16 @@ pub record AreParts (d : Dictionary) (u : Unknown) (most : Levels) (host realm r
   pub unknown : p.unknown ≡ u
   pub levels : p.levels ≡ most
   pub reads : AreRequestAvps fault.reason p.request request
-  pub code : IsField 4 fault.code p.code
+  pub code : p.code ≡ big_bytes 4 fault.code
   pub is_host : p.host ≡ host
   pub is_realm : p.realm ≡ realm
   pub text : List ℕ
   pub has_text : p.line ≡ Some text
   pub is_line : line text ≡ fault_line d fault
   pub is_utf8 : IsUtf8 text
-  -- section 7.5: it holds AVPs, so a fault of the header has none
-  pub none : IsOfHeader fault.reason → p.failed ≡ None
+  pub header : Header
+  pub is_header : IsRequestHead header request
+  pub is_failed : IsFailed d header request fault p.failed
 
 -- all AVPs of the answer, in their order: by the rules of its form's command, with Error-Message and Failed-AVP or without them
 pub record HasBody (d : Dictionary) (u : Unknown) (most : Levels) (host realm request : List ℕ) (made : Made) : Type 0 where
@@ -123,6 +126,19 @@ pub record HasBody (d : Dictionary) (u : Unknown) (most : Levels) (host realm re
   pub avps : List PlainAvp
   pub are_avps : IsStock (form_dictionary made.form d) made.form command.rules (in_extent extent parts) avps
   pub message : MessageWithZeros (answer_header header made.form) (in_order command.rules avps) made.bytes.items
+
+-- Failed-AVP of the answer (section 7.5): one that holds what there is for the fault, where its form's dictionary and definition take it, unless the answer is one of those without it; else none
+pub record HasFailed (d : Dictionary) (request : List ℕ) (made : Made) : Type 0 where
+  pub header : Header
+  pub reads : IsRequestHead header request
+  pub failed : Option (List ℕ)
+  pub is_failed : IsFailed d header request made.fault failed
+  pub command : PlainDefinition
+  pub is_command : IsCommandOf (form_dictionary made.form d) header made.form command
+  pub extent : Extent
+  pub avps : List PlainAvp
+  pub message : IsMessage (answer_header header made.form) avps made.bytes.items
+  pub these : of_key failed_avp avps ≡ failed_avps (form_dictionary made.form d) made.form command.rules (full extent failed)
 
 -- ---- which form
 
@@ -140,6 +156,7 @@ pub record IsOfForm (d : Dictionary) (h : Header) (f : Form) (p : Parts) (bytes 
   pub listed : IsListed f command.rules avps
   pub room : ¬ IsTooLong (in_order command.rules avps)
   pub message : MessageWithZeros (answer_header h f) (in_order command.rules avps) bytes
+  pub are_bytes : AreBytes bytes
   pub valid : IsValid (opaque d) p.unknown p.levels bytes
 
 -- a form, with Error-Message and Failed-AVP or without them
@@ -178,10 +195,11 @@ pub record HasFirstForm (d : Dictionary) (u : Unknown) (most : Levels) (host rea
   pub are_parts : AreParts d u most host realm request made.fault parts
   pub first : IsByFirst d header parts (attempts_for made.fault.code) made.form made.bytes.items
 
--- there is no answer of any form
+-- there is no answer of any form to the request
 pub record HasNoForm (d : Dictionary) (u : Unknown) (most : Levels) (host realm request : List ℕ) : Type 0 where
   pub header : Header
   pub reads : IsRequestHead header request
+  pub is_request : HasR header.flags
   pub fault : Fault
   pub recorded : IsRecorded d u most request fault
   pub parts : Parts
@@ -200,6 +218,24 @@ IsNoAnswer d u most bytes no_answer.Truncated = IsRequest bytes × IsAnswer d u 
 IsNoAnswer d u most bytes no_answer.Trailing = IsRequest bytes × IsAnswer d u most bytes (Err refusal.Trailing)
 IsNoAnswer d u most bytes no_answer.Valid = IsRequest bytes × IsValid d u most bytes
 IsNoAnswer d u most bytes no_answer.TooLong = IsRequest bytes × ((fault : Fault) × IsRecorded d u most bytes fault)
+
+-- the answer that is due to the request
+pub record IsDue (d : Dictionary) (u : Unknown) (most : Levels) (host realm request : List ℕ) (made : Made) : Type 0 where
+  pub is_request : IsRequest request
+  pub recorded : IsRecorded d u most request made.fault
+  pub first : HasFirstForm d u most host realm request made
+
+-- what is answered of the bytes: the answer that is due, or why there is none
+abbrev pub IsAnswered : Dictionary → Unknown → Levels → List ℕ → List ℕ → List ℕ → Result Made NoAnswer → Type 0
+IsAnswered d u most host realm bytes (Ok made) = IsDue d u most host realm bytes made
+IsAnswered d u most host realm bytes (Err no_answer.TooLong) = HasNoForm d u most host realm bytes
+IsAnswered d u most host realm bytes (Err why) = IsNoAnswer d u most bytes why
+
+-- the same bytes, of the same form and for the same fault, or the same reason for there being none
+abbrev pub AreSame : Result Made NoAnswer → Result Made NoAnswer → Type 0
+AreSame (Ok made) (Ok other) = (made.bytes.items ≡ other.bytes.items) × (made.form ≡ other.form) × (made.fault ≡ other.fault)
+AreSame (Err why) (Err other) = why ≡ other
+AreSame one other = ⊥
 
 -- its word
 abbrev pub no_answer_word : NoAnswer → List ℕ
@@ -223,6 +259,7 @@ pub record IsWritten (d : Dictionary) (f : Form) (rules : List DRule) (e : Exten
   pub listed : IsListed f rules stock
   pub room : ¬ IsTooLong (in_order rules stock)
   pub message : MessageWithZeros (answer_header c.header f) (in_order rules stock) bytes
+  pub are_bytes : AreBytes bytes
   pub valid : IsValid (opaque d) c.unknown c.levels bytes
 
 pub record IsAnswerBy (d : Dictionary) (c : Contents) (made : Made) : Type 0 where

@@ -1,11 +1,16 @@
 -- A request: its header and its AVPs (RFC 6733 section 3).
-use Rattle.std.specs.Prelude.{◌≡◌, ℕ, ◌≤◌, List, [], ◌++◌, length, take, drop, slice_index, ⊤}
+use Rattle.std.specs.Prelude.{◌≡◌, ℕ, ◌<◌, ◌≤◌, List, [], ◌++◌, length, take, drop, slice_index, ⊤}
+use Rattle.std.specs.List.{AllByRecursion}
 use Rattle.dia_wire.specs.declared.Header.{Header}
 use Rattle.dia_wire.specs.Lengths.{header_length}
 use Rattle.dia_wire.specs.Number.{number}
 use Rattle.dia_wire.specs.Wire.{PlainAvp, SpellsAll, BeginsWithNone}
 use Rattle.dia_check.specs.declared.Reason.{Reason}
 use Rattle.dia_check.specs.declared.Reason.TheVariants as reason
+
+-- each is a byte
+abbrev pub AreBytes : List ℕ → Type 0
+AreBytes bytes = AllByRecursion (λ byte. byte < 256) bytes
 
 -- the fields of a header as version 1 has them, whatever the version and the Message Length of the bytes are
 pub record IsRequestHead (h : Header) (bytes : List ℕ) : Type 0 where

@@ -11,11 +11,13 @@ ghost use Rattle.dia_answer.specs.Reports.{
   AreTried,
   HasBody,
   HasCopies,
+  HasFailed,
   HasFirstForm,
   HasNoForm,
   HasOne,
   IsAnswerBy,
   IsAnswerOf,
+  IsAnswered,
   IsFormFor,
   IsListed,
   IsNoAnswer,
@@ -34,6 +36,7 @@ ghost use Rattle.dia_answer.specs.Reports.{
 ghost use Rattle.dia_wire.specs.Number.{IsField};
 ghost use Rattle.dia_answer.specs.Bodies.{AllOf, origin_host, origin_realm, proxy_info, result_code};
 ghost use Rattle.dia_answer.specs.Helds.{plains};
+ghost use Rattle.dia_answer.specs.Requests.{AreBytes};
 ghost use Rattle.dia_answer.specs.declared.forms.NoAnswer.{NoAnswer as AnyNoAnswer};
 
 use crate::contents::{Contents, Extent};
@@ -76,11 +79,16 @@ pub fn answer<B: Book>(
     ensures origin_realm { OnMade (λ made. HasOne origin_realm (λ b. b ≡ names.now.realm.now) made.bytes.items) result }
     ensures copies { OnMade (λ made. HasCopies (form_dictionary made.form (B.meaning book.now))
         unknown levels made.fault.reason bytes.now made.bytes.items) result }
+    ensures failed_avp { OnMade (HasFailed (B.meaning book.now) bytes.now) result }
     ensures body { OnMade (HasBody (B.meaning book.now) unknown levels names.now.host.now names.now.realm.now bytes.now) result }
     ensures first { OnMade (HasFirstForm (B.meaning book.now) unknown levels
         names.now.host.now names.now.realm.now bytes.now) result }
     ensures too_long { result ≡ Ok (Err NoAnswer.TooLong) → HasNoForm (B.meaning book.now) unknown levels
         names.now.host.now names.now.realm.now bytes.now }
+    ensures too_long_only { HasNoForm (B.meaning book.now) unknown levels names.now.host.now names.now.realm.now bytes.now
+        → IfOk result (λ found. found ≡ Err NoAnswer.TooLong) }
+    ensures answered { IfOk result (IsAnswered (B.meaning book.now) unknown levels
+        names.now.host.now names.now.realm.now bytes.now) }
     ensures short { (result ≡ Ok (Err NoAnswer.Short)) ↔ (length bytes.now < 20) }
     ensures answer { (result ≡ Ok (Err NoAnswer.Answer))
         ↔ ((20 ≤ length bytes.now) × (¬ HasR (slice_index bytes.now 4))) }
@@ -255,16 +263,27 @@ fn header_for(request: &Header, form: Form) -> Header
 /// The message of these AVPs; none where it would be too long.
 fn written(alloc: Global, header: &Header, held: &[Held<'_>]) -> Result<Option<Vec<u8>>, AllocError>
     requires fits { header.now.code < three_bytes }
-    ensures { IfOk result (λ found. MatchOption found (IsTooLong (plains held.now))
+    ensures message { IfOk result (λ found. MatchOption found (IsTooLong (plains held.now))
         (λ bytes. (¬ IsTooLong (plains held.now)) × MessageWithZeros header.now (plains held.now) bytes.items)) }
+    ensures bytes { IfOk result (λ found. IfSome found (λ bytes. AreBytes bytes.items)) }
 {
     let avps = held::written(alloc, held)?;
     let mut bytes = Vec::new(alloc);
     match put_message(&mut bytes, header, &avps) {
-        Ok(()) => Ok(Some(bytes)),
+        Ok(()) => {
+            each_is_a_byte(&bytes);
+            Ok(Some(bytes))
+        }
         Err(PutFault::TooLong) => Ok(None),
         Err(PutFault::NoMemory) => Err(AllocError),
     }
+}
+
+/// Does nothing: its contract is what the type of the bytes says.
+fn each_is_a_byte(bytes: &[u8])
+    ensures { AreBytes bytes.now }
+{
+    let _count = bytes.len();
 }
 
 /// These bytes, if they are a valid message of the dictionary with Failed-AVP as OctetString.

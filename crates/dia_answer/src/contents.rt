@@ -1,6 +1,6 @@
 //! What an answer is made of, whatever its form.
 
-ghost use Rattle.std.specs.Prelude.{◌≡◌, ◌<◌, ◌≤◌, IfOk, None, Some, length, string_bytes};
+ghost use Rattle.std.specs.Prelude.{◌≡◌, ◌<◌, ◌≤◌, IfOk, Some, length, string_bytes};
 ghost use Rattle.std.specs.Option.{option_map};
 ghost use Rattle.byteorder.specs.Endian.{big_bytes};
 ghost use Rattle.dia_wire.specs.Lengths.{header_length, three_bytes};
@@ -8,7 +8,8 @@ ghost use Rattle.dia_run.specs.Texts.{line};
 ghost use Rattle.dia_run.specs.Verdict.{fault_line};
 ghost use Rattle.dia_answer.specs.Contents.{full};
 ghost use Rattle.dia_answer.specs.Helds.{plains};
-ghost use Rattle.dia_answer.specs.Requests.{AreRequestAvps, IsOfHeader};
+ghost use Rattle.dia_answer.specs.Failed.{IsFailed};
+ghost use Rattle.dia_answer.specs.Requests.{AreRequestAvps};
 
 use crate::failed::failed_data;
 use crate::held::Held;
@@ -67,8 +68,8 @@ impl<'a> Contents<'a> {
             × (contents.unknown ≡ unknown) × (contents.levels ≡ levels) × (contents.names ≡ names.entry)) }
         ensures request { IfOk result
             (λ contents. AreRequestAvps fault.reason (plains contents.request.items) bytes.now) }
-        ensures failed { IsOfHeader fault.reason
-            → IfOk result (λ contents. option_map (λ f. f.items) contents.failed ≡ None) }
+        ensures failed { IfOk result (λ contents. IsFailed (B.meaning book.now) header bytes.now fault
+            (option_map (λ f. f.items) contents.failed)) }
         ensures line { IfOk result
             (λ contents. line (string_bytes contents.line) ≡ fault_line (B.meaning book.now) fault) }
     {

@@ -1,9 +1,16 @@
 //! AVPs that are made as examples of what is missing or broken.
 
-ghost use Rattle.std.specs.Prelude.{◌≡◌, ◌≤◌, ◌↔◌, IsSome};
-ghost use Rattle.dia_wire.specs.Wire.{plain_avp, Agrees, HasVendorFlag};
+ghost use Rattle.std.specs.Prelude.{◌≡◌, ◌≤◌, drop, option_and_then, take};
+ghost use Rattle.std.specs.Option.{option_map};
+ghost use Rattle.dia_wire.specs.Number.{number};
+ghost use Rattle.dia_wire.specs.Wire.{plain_avp};
+ghost use Rattle.dia_breaking_data.specs.Shortest.{witness_bytes};
+ghost use Rattle.dia_breaking_data.specs.TheData.{the_data};
+ghost use Rattle.dia_valid.specs.Valid.{known};
+ghost use Rattle.dia_answer.specs.Failed.{corrected, example, filled_head, head_vendor};
 ghost use Rattle.dia_answer.specs.Stocks.{m_flag};
 
+use crate::around::head_length;
 use dia_book::{Book, Key, MRule};
 use dia_breaking_data::{Witness, shortest};
 use dia_wire::{AVP_HEAD_LENGTH, AVP_MANDATORY, AVP_VENDOR, Avp, VENDOR_AVP_HEAD_LENGTH, number32};
@@ -15,12 +22,15 @@ pub(crate) struct Example {
     flags: u8,
     vendor: Option<u32>,
     least: Option<Witness>,
-    ghost agree: { HasVendorFlag flags ↔ IsSome vendor },
 }
 
 impl Example {
+    ghost use Rattle.dia_answer.specs.Examples.{plain_example};
+
     /// An AVP of the key, as the dictionary has it.
-    pub(crate) fn of_key<B: Book>(book: &B, key: Key) -> Example {
+    pub(crate) fn of_key<B: Book>(book: &B, key: Key) -> Example
+        ensures { plain_example result ≡ example (B.meaning book.now) key }
+    {
         let vendor_flag = if key.vendor == 0 { 0 } else { AVP_VENDOR };
         Example {
             code: key.code,
@@ -35,30 +45,20 @@ impl Example {
     }
 
     /// The AVP whose head these bytes begin, with zero bytes for those that aren't there.
-    pub(crate) fn of_head<B: Book>(book: &B, level: &[u8]) -> Example {
+    pub(crate) fn of_head<B: Book>(book: &B, level: &[u8]) -> Example
+        ensures { plain_example result ≡ corrected (B.meaning book.now) level.now }
+    {
         let head = filled(level);
-        let code = number_at(&head, 0);
-        let flags = head[4];
-        let has_vendor = flags & AVP_VENDOR != 0;
-        let vendor = if has_vendor {
-            Some(number_at(&head, AVP_HEAD_LENGTH))
-        } else {
-            None
-        };
+        let vendor = vendor_in(&head);
         let key = Key {
-            code,
+            code: number_at(&head, 0),
             vendor: vendor.unwrap_or(0),
         };
-        let length = if has_vendor {
-            VENDOR_AVP_HEAD_LENGTH
-        } else {
-            AVP_HEAD_LENGTH
-        };
         Example {
-            code,
-            flags,
+            code: key.code,
+            flags: head[4],
             vendor,
-            least: if level.len() < length {
+            least: if level.len() < head_length(vendor) {
                 None
             } else {
                 least_data(book, key)
@@ -67,7 +67,7 @@ impl Example {
     }
 
     pub(crate) fn as_avp(&self) -> Avp<'_>
-        ensures { Agrees (plain_avp result) }
+        ensures { plain_avp result ≡ plain_example self.now }
     {
         Avp {
             code: self.code,
@@ -82,15 +82,29 @@ impl Example {
 }
 
 /// The first 12 bytes of a level, with zero bytes for those that aren't there.
-fn filled(level: &[u8]) -> [u8; VENDOR_AVP_HEAD_LENGTH] {
+fn filled(level: &[u8]) -> [u8; VENDOR_AVP_HEAD_LENGTH]
+    ensures { result ≡ filled_head level.now }
+{
     let mut head = [0; VENDOR_AVP_HEAD_LENGTH];
     let count = level.len().min(VENDOR_AVP_HEAD_LENGTH);
     head[..count].copy_from_slice(&level[..count]);
     head
 }
 
+/// The Vendor-ID of a head.
+fn vendor_in(head: &[u8; VENDOR_AVP_HEAD_LENGTH]) -> Option<u32>
+    ensures { result ≡ head_vendor head.now }
+{
+    if head[4] & AVP_VENDOR == 0 {
+        None
+    } else {
+        Some(number_at(head, AVP_HEAD_LENGTH))
+    }
+}
+
 fn number_at(head: &[u8; VENDOR_AVP_HEAD_LENGTH], at: usize) -> u32
     requires { at ≤ 8 }
+    ensures { result ≡ number (take 4 (drop at head.now)) }
 {
     match number32(&head[at..at + 4]) {
         Some(number) => number,
@@ -112,7 +126,10 @@ pub(crate) fn m_flag<B: Book>(book: &B, key: Key) -> u8
 }
 
 /// The least data of a known AVP: none of a group.
-fn least_data<B: Book>(book: &B, key: Key) -> Option<Witness> {
+fn least_data<B: Book>(book: &B, key: Key) -> Option<Witness>
+    ensures { option_map witness_bytes result
+        ≡ option_and_then (λ e. the_data e.format) (known (B.meaning book.now) key) }
+{
     let entry = book.avp(key)?;
     shortest(book.format(entry))
 }

@@ -1,16 +1,28 @@
 //! The data of Failed-AVP (RFC 6733 section 7.5).
 
-ghost use Rattle.std.specs.Prelude.{◌≡◌, ◌<◌, IfOk, IfSome, None, length};
+ghost use Rattle.std.specs.Prelude.{◌≡◌, ◌++◌, ◌+◌, ◌<◌, ◌≤◌, ◌↔◌, ◌^◌, IfOk, IfSome, IsTrue, OnOk, length};
+ghost use Rattle.std.specs.Option.{option_map};
+ghost use Rattle.dia_wire.specs.Lengths.{header_length};
 ghost use Rattle.dia_wire.specs.Wire.{plain_avp, Agrees};
-ghost use Rattle.dia_book.specs.Dictionary.{definitions};
+ghost use Rattle.dia_wire.specs.Written.{avp_bytes};
+ghost use Rattle.dia_answer.specs.Failed.{
+  BeginsBy,
+  IsFailed,
+  IsFailedIn,
+  head_bytes,
+  heads_length,
+  shown_bytes,
+  wrapped,
+};
+ghost use Rattle.dia_answer.specs.Levels.{plain_way};
 ghost use Rattle.dia_answer.specs.Requests.{IsOfHeader};
 
-use crate::around::groups_around;
+use crate::around::{Around, Step, head_length, padded_length};
 use crate::example::Example;
 use byteorder::{BigEndian, ByteOrder};
-use dia_book::{Book, Class, DefId};
+use dia_book::{Book, Class, DRule};
 use dia_check::{Fault, Reason, Subject};
-use dia_wire::{AVP_HEAD_LENGTH, Avp, Header, PutFault, VENDOR_AVP_HEAD_LENGTH, next_avp, put_avp};
+use dia_wire::{Avp, HEADER_LENGTH, Header, next_avp};
 use std::alloc::{AllocError, Global};
 
 /// The data of Failed-AVP; none for a fault of the header, and for a missing AVP of no key in no group.
@@ -21,15 +33,32 @@ pub(crate) fn failed_data<B: Book>(
     bytes: &[u8],
     fault: &Fault,
 ) -> Result<Option<Vec<u8>>, AllocError>
-    ensures header { IsOfHeader fault.now.reason → IfOk result (λ failed. failed ≡ None) }
+    requires { header_length ≤ length bytes.now }
+    ensures { IfOk result (λ failed. IsFailed (B.meaning book.now) header.now bytes.now fault.now
+        (option_map (λ f. f.items) failed)) }
 {
-    match fault.reason {
-        Reason::Version | Reason::Length | Reason::Bits => Ok(None),
-        Reason::Command | Reason::Application | Reason::Proxiable => Ok(None),
-        _ => match book.select(header.code, Class::Request, header.app) {
-            Some(def) => in_body(alloc, book, def, bytes, fault),
-            None => Ok(None),
-        },
+    if is_of_header(fault.reason) {
+        return Ok(None);
+    }
+    match book.select(header.code, Class::Request, header.app) {
+        Some(def) => {
+            let rules = &book.def(def).rules;
+            in_body(alloc, book, rules, &bytes[HEADER_LENGTH..], fault)
+        }
+        None => Ok(None),
+    }
+}
+
+/// Whether a fault of this reason is one of the header.
+fn is_of_header(reason: Reason) -> bool
+    ensures { IsTrue result ↔ IsOfHeader reason }
+{
+    match reason {
+        Reason::Version | Reason::Length | Reason::Bits => true,
+        Reason::Command | Reason::Application | Reason::Proxiable => true,
+        Reason::AvpLength | Reason::Unknown | Reason::MBit | Reason::Missing => false,
+        Reason::NotAllowed | Reason::TooMany | Reason::LeafLength => false,
+        Reason::LeafValue | Reason::Depth => false,
     }
 }
 
@@ -37,94 +66,96 @@ pub(crate) fn failed_data<B: Book>(
 fn in_body<B: Book>(
     alloc: Global,
     book: &B,
-    def: DefId,
-    bytes: &[u8],
+    rules: &[DRule],
+    body: &[u8],
     fault: &Fault,
 ) -> Result<Option<Vec<u8>>, AllocError>
-    requires { def < length (definitions (B.meaning book.now)) }
+    ensures { IfOk result (λ failed. IsFailedIn (B.meaning book.now) rules.now body.now fault.now
+        (option_map (λ f. f.items) failed)) }
 {
-    let around = groups_around(alloc, book, def, bytes, fault)?;
-    let level = match bytes.get(fault.place as usize..around.end) {
-        Some(level) => level,
-        None => &[],
-    };
-    match (fault.reason, fault.subject) {
-        (Reason::Missing, Subject::Avp(key)) => {
-            let example = Example::of_key(book, key);
+    let around = Around::new(alloc, book, rules, body, fault)?;
+    let here = around.here();
+    match fault.reason {
+        Reason::Missing => match fault.subject {
+            Subject::Avp(key) => {
+                let example = Example::of_key(book, key);
+                wrapped(alloc, &around.groups, Some(example.as_avp()))
+            }
+            Subject::Nothing => wrapped(alloc, &around.groups, None),
+            Subject::Wildcard => wrapped(alloc, &around.groups, None),
+        },
+        Reason::AvpLength => {
+            let example = Example::of_head(book, here);
             wrapped(alloc, &around.groups, Some(example.as_avp()))
         }
-        (Reason::Missing, _) => wrapped(alloc, &around.groups, None),
-        (Reason::AvpLength, _) => {
-            let example = Example::of_head(book, level);
-            wrapped(alloc, &around.groups, Some(example.as_avp()))
-        }
-        _ => wrapped(alloc, &around.groups, first_of(level)),
+        _ => wrapped(alloc, &around.groups, first_of(here)),
     }
 }
 
 /// The AVP that begins a level.
 fn first_of(level: &[u8]) -> Option<Avp<'_>>
-    ensures { IfSome result (λ v. Agrees (plain_avp v)) }
+    ensures { BeginsBy level.now (option_map plain_avp result) }
 {
     match next_avp(level) {
         Ok(Some((avp, _))) => Some(avp),
-        Ok(None) | Err(_) => None,
+        Ok(None) => None,
+        Err(_) => None,
     }
 }
 
 /// The groups in one another, the outermost first, and in the innermost the AVP; nothing where there is none of them.
 fn wrapped(
     alloc: Global,
-    groups: &[Avp<'_>],
-    avp: Option<Avp<'_>>,
+    groups: &[Step<'_>],
+    shown: Option<Avp<'_>>,
 ) -> Result<Option<Vec<u8>>, AllocError>
-    requires { IfSome avp (λ v. Agrees (plain_avp v)) }
+    requires { heads_length (plain_way groups.now)
+        + length (shown_bytes (option_map plain_avp shown)) < 2 ^ 64 }
+    ensures { IfOk result (λ failed. option_map (λ f. f.items) failed
+        ≡ wrapped (plain_way groups.now) (option_map plain_avp shown.entry)) }
 {
-    let inner = match avp {
-        Some(avp) => spelled(alloc, &avp)?,
-        None if groups.is_empty() => return Ok(None),
-        None => Vec::new(alloc),
+    if groups.is_empty() && shown.is_none() {
+        return Ok(None);
+    }
+    let mut length = match &shown {
+        Some(avp) => padded_length(avp),
+        None => 0,
     };
-    let mut length = inner.len();
-    for group in groups {
-        length = length.saturating_add(head_length(group));
+    for step in groups {
+        length += head_length(step.group.vendor);
     }
     let mut out = Vec::new(alloc);
-    for group in groups {
-        push_head(&mut out, group, length)?;
-        length = length.saturating_sub(head_length(group));
+    for step in groups {
+        push_head(&mut out, &step.group, length)?;
+        length -= head_length(step.group.vendor);
     }
-    out.extend_from_slice(&inner)?;
+    if let Some(avp) = &shown {
+        push_avp(&mut out, avp)?;
+    }
     Ok(Some(out))
 }
 
-/// The bytes of an AVP; none of one that is too long for a message.
-fn spelled(alloc: Global, avp: &Avp<'_>) -> Result<Vec<u8>, AllocError>
-    requires { Agrees (plain_avp avp.now) }
+/// Adds an AVP, padded with zero bytes (RFC 6733 section 4.1).
+fn push_avp(out: &mut Vec<u8>, avp: &Avp<'_>) -> Result<(), AllocError>
+    ensures { OnOk result (out.new.items ≡ out.old.items ++ avp_bytes (plain_avp avp.now)) }
 {
-    let mut bytes = Vec::new(alloc);
-    match put_avp(&mut bytes, avp) {
-        Ok(()) => Ok(bytes),
-        Err(PutFault::TooLong) => Ok(bytes),
-        Err(PutFault::NoMemory) => Err(AllocError),
-    }
+    let length = avp.length();
+    push_head(out, avp, length)?;
+    out.extend_from_slice(avp.bytes)?;
+    let zeros = [0, 0, 0];
+    out.extend_from_slice(&zeros[..(4 - length % 4) % 4])
 }
 
-fn head_length(avp: &Avp<'_>) -> usize {
-    match avp.vendor {
-        Some(_) => VENDOR_AVP_HEAD_LENGTH,
-        None => AVP_HEAD_LENGTH,
-    }
-}
-
-/// Adds the head of a group of this length (RFC 6733 section 4.1).
-fn push_head(out: &mut Vec<u8>, group: &Avp<'_>, length: usize) -> Result<(), AllocError> {
+/// Adds the head of an AVP of this length (RFC 6733 section 4.1).
+fn push_head(out: &mut Vec<u8>, avp: &Avp<'_>, length: usize) -> Result<(), AllocError>
+    ensures { OnOk result (out.new.items ≡ out.old.items ++ head_bytes (plain_avp avp.now) length) }
+{
     let mut code = [0; 4];
-    BigEndian::write_u32(&mut code, group.code);
+    BigEndian::write_u32(&mut code, avp.code);
     out.extend_from_slice(&code)?;
-    out.push(group.flags)?;
+    out.push(avp.flags)?;
     out.extend_from_slice(&length.to_be_bytes()[5..])?;
-    match group.vendor {
+    match avp.vendor {
         Some(vendor) => out.extend_from_slice(&vendor.to_be_bytes()),
         None => Ok(()),
     }

@@ -1,6 +1,6 @@
 //! Laws of answers.
 
-ghost use Rattle.std.specs.Prelude.{◌≡◌, ◌≢◌, ◌↔◌, ℕ, List};
+ghost use Rattle.std.specs.Prelude.{◌≡◌, ◌≢◌, ◌↔◌, ℕ, List, Result};
 ghost use Rattle.dia_terms.specs.declared.Unknown.{Unknown as AnyUnknown};
 ghost use Rattle.dia_terms.specs.declared.Levels.{Levels as AnyLevels};
 ghost use Rattle.dia_wire.specs.declared.Header.{Header as AnyHeader};
@@ -8,10 +8,11 @@ ghost use Rattle.dia_book.specs.Dictionary.{Dictionary, IsDictionary};
 ghost use Rattle.dia_valid.specs.Valid.{IsValid};
 ghost use Rattle.dia_dict.specs.Base.{base};
 ghost use Rattle.dia_answer.specs.declared.forms.Made.{Made as AnyMade};
+ghost use Rattle.dia_answer.specs.declared.forms.NoAnswer.{NoAnswer as AnyNoAnswer};
 ghost use Rattle.dia_answer.specs.Requests.{IsRequestHead};
 ghost use Rattle.dia_answer.specs.Names.{IsName};
 ghost use Rattle.dia_answer.specs.OwnErrors.{HasErrorsOfBase, HasRoom};
-ghost use Rattle.dia_answer.specs.Reports.{HasBody, HasFirstForm, IsValidBy, form_dictionary};
+ghost use Rattle.dia_answer.specs.Reports.{AreSame, HasBody, HasFirstForm, IsAnswered, IsValidBy, form_dictionary};
 ghost use Rattle.dia_answer.specs.Strict.{AreNoGroups, HasFittingFailed};
 
 use crate::forms::Form;
@@ -41,4 +42,14 @@ pub fn own_error_message()
     ensures { (d : Dictionary) (u : AnyUnknown) (most : AnyLevels) (host realm request : List ℕ) (made : AnyMade)
         → IsDictionary d → HasErrorsOfBase d → IsName host → IsName realm
         → (first : HasFirstForm d u most host realm request made) → HasRoom d first.parts → made.form ≢ Form.Base }
+{}
+
+/// A request gets one answer: what `answer` answers of the same bytes by the same dictionary, with the same policy and limit of
+/// levels and of a node with the same names, is the same bytes, of the same form and for the same fault, or the same reason
+/// for there being none.
+pub fn one_answer()
+    ensures { (d : Dictionary) (u : AnyUnknown) (most : AnyLevels) (host realm request : List ℕ)
+        (one other : Result AnyMade AnyNoAnswer) → IsDictionary d
+        → IsAnswered d u most host realm request one → IsAnswered d u most host realm request other
+        → AreSame one other }
 {}

@@ -31,5 +31,5 @@ mod stock;
 pub use answering::answer;
 pub use command::{Report, Reported, write_answer};
 pub use forms::{Form, Made, NoAnswer};
-pub use laws::cer_gets_error_message;
+pub use laws::{cer_gets_error_message, one_answer};
 pub use names::{NameFault, Names};

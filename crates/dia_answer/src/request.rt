@@ -48,7 +48,7 @@ pub(crate) fn avps_of(
 }
 
 /// The AVPs of a level, up to a place where none begins.
-fn front_of(alloc: Global, level: &[u8]) -> Result<Vec<Held<'_>>, AllocError>
+pub(crate) fn front_of(alloc: Global, level: &[u8]) -> Result<Vec<Held<'_>>, AllocError>
     ensures avps { IfOk result (λ avps. AreFront (map (λ h. plain_avp h.avp) avps.items) level.now) }
 {
     let mut avps = Vec::new(alloc);

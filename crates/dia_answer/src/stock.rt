@@ -144,7 +144,7 @@ fn lists(rule: &DRule, key: Key) -> bool
     rule.key == Some(key)
 }
 
-fn is_listed(rules: &[DRule], key: Key) -> bool
+pub(crate) fn is_listed(rules: &[DRule], key: Key) -> bool
     ensures { result ≡ is_listed rules.now key }
 {
     rules.iter().any(|rule| lists(rule, key))

@@ -1,5 +1,4 @@
 use Rattle.std.proofs.Common.{◌≡◌, ◌<◌, ◌^◌, Ok, Err, Some, refl, sym, ap, subst}
-use Rattle.std.specs.Prelude.{string_bytes}
 use Rattle.dia_wire.specs.declared.Header.{Header}
 use Rattle.dia_wire.specs.Number.{IsField}
 use Rattle.dia_wire.specs.Wire.{HasR}
@@ -7,17 +6,16 @@ use Rattle.dia_check.specs.declared.Fault.{Fault}
 use Rattle.dia_check.specs.declared.Refusal.{Refusal}
 use Rattle.dia_check.specs.declared.Refusal.TheVariants.{Trailing, Truncated}
 use Rattle.dia_check.specs.Faults.{IsAnswer, IsRecorded}
-use Rattle.dia_run.specs.Texts.{line}
-use Rattle.dia_run.specs.Verdict.{fault_line}
 use Rattle.dia_answer.specs.declared.forms.Made.{Made}
 use Rattle.dia_answer.specs.declared.forms.NoAnswer.TheVariants as no_answer
 use Rattle.dia_answer.specs.declared.names.Names.{Names}
 use Rattle.dia_answer.specs.Bodies.{origin_host, origin_realm, result_code}
 use Rattle.dia_answer.specs.Helds.{plains}
-use Rattle.dia_answer.specs.Requests.{AreRequestAvps, IsOfHeader, IsRequestHead}
-use Rattle.dia_answer.specs.Reports.{AreTried, HasBody, HasCopies, HasFirstForm, HasOne, IsAnswerOf, IsProcessed, IsValidBy, attempts_for, form_dictionary}
+use Rattle.dia_answer.specs.Requests.{AreRequestAvps}
+use Rattle.dia_answer.specs.Reports.{AreTried, HasBody, HasCopies, HasFailed, HasFirstForm, HasOne, IsAnswerOf, IsAnswered, IsProcessed, IsValidBy, attempts_for, form_dictionary}
 use Rattle.dia_answer.proofs.Answers.{OnMade-map, made_is_valid}
-use Rattle.dia_answer.proofs.Results.{made_body, made_copies, made_first, made_origin_host, made_origin_realm, made_processed, made_result_code, none_made, on_too_long, recorded_code}
+use Rattle.dia_answer.proofs.Results.{answered_of, are_contents, made_body, made_copies, made_failed, made_first, made_origin_host, made_origin_realm, made_processed, made_result_code, on_too_long, recorded_code}
+use Rattle.dia_answer.proofs.OneAnswer.{too_long_only}
 use Rattle.dia_answer.proofs.Reasons.{no_reason, one_reason}
 use Rattle.dia_answer.proofs.answering.answer.Goals as goal
 
@@ -65,6 +63,18 @@ returns-in_ok-contents-in-Err-Fault-clause-copies g c =
     OnMade-map (IsAnswerOf d contents) (λ (made : Made). HasCopies (form_dictionary made.form d) c.args.unknown c.args.levels made.fault.reason request made.bytes.items)
     (λ made h. made_copies d c.args.unknown c.args.levels request contents made kept.same.2 kept.same.3 reads h) c.report.result c.report.ensures.made
 
+pub returns-in_ok-contents-in-Err-Fault-clause-failed_avp : goal.returns-in_ok-contents-in-Err-Fault-clause-failed_avp
+returns-in_ok-contents-in-Err-Fault-clause-failed_avp g c =
+    let d = g.B.Book.meaning c.args.book.now in
+    let u = c.args.unknown in
+    let most = c.args.levels in
+    let request = c.args.bytes.now in
+    let names = c.args.names.now in
+    let contents = c.in_ok-contents-in-Err-Fault.contents in
+    let kept = c.in_ok-contents-in-Err-Fault.ensures in
+    let are = are_contents d u most names request c.in-Some.header c.in-Err-Fault.fault contents kept.same c.in-Some.ensures.reads kept.request kept.failed kept.line in
+    OnMade-map (IsAnswerOf d contents) (HasFailed d request) (made_failed d u most names.host.now names.realm.now request contents are) c.report.result c.report.ensures.made
+
 pub returns-in_ok-contents-in-Err-Fault-clause-body : goal.returns-in_ok-contents-in-Err-Fault-clause-body
 returns-in_ok-contents-in-Err-Fault-clause-body g c =
     let d = g.B.Book.meaning c.args.book.now in
@@ -74,17 +84,8 @@ returns-in_ok-contents-in-Err-Fault-clause-body g c =
     let names = c.args.names.now in
     let contents = c.in_ok-contents-in-Err-Fault.contents in
     let kept = c.in_ok-contents-in-Err-Fault.ensures in
-    let fault = c.in-Err-Fault.fault in
-    let recorded : IsRecorded d c.args.unknown c.args.levels c.args.bytes.now c.in-Err-Fault.fault =
-    subst (λ (e : Refusal). IsAnswer d c.args.unknown c.args.levels c.args.bytes.now (Err e)) c.in-Err-Fault.field-0-is c.in-Err-Fault.ensures.answer in
-    let small : contents.fault.code < 2 ^ 32 = subst (λ (f : Fault). f.code < 2 ^ 32) (sym kept.same.0) (recorded_code d u most request fault recorded) in
-    let head = subst (λ (h : Header). IsRequestHead h request) (sym kept.same.1) c.in-Some.ensures.reads in
-    let host : contents.names.host.now ≡ names.host.now = ap (λ (n : Names). n.host.now) kept.same.4 in
-    let realm : contents.names.realm.now ≡ names.realm.now = ap (λ (n : Names). n.realm.now) kept.same.4 in
-    let reads = subst (λ (f : Fault). AreRequestAvps f.reason (plains contents.request.items) request) (sym kept.same.0) kept.request in
-    let text = subst (λ (f : Fault). line (string_bytes contents.line) ≡ fault_line d f) (sym kept.same.0) kept.line in
-    let none = λ (of_header : IsOfHeader contents.fault.reason). kept.failed (subst (λ (f : Fault). IsOfHeader f.reason) kept.same.0 of_header) in
-    OnMade-map (IsAnswerOf d contents) (HasBody d u most names.host.now names.realm.now request) (made_body d u most names.host.now names.realm.now request contents small head kept.same.2 kept.same.3 host realm reads text none) c.report.result c.report.ensures.made
+    let are = are_contents d u most names request c.in-Some.header c.in-Err-Fault.fault contents kept.same c.in-Some.ensures.reads kept.request kept.failed kept.line in
+    OnMade-map (IsAnswerOf d contents) (HasBody d u most names.host.now names.realm.now request) (made_body d u most names.host.now names.realm.now request contents are) c.report.result c.report.ensures.made
 
 pub returns-in_ok-contents-in-Err-Fault-clause-first : goal.returns-in_ok-contents-in-Err-Fault-clause-first
 returns-in_ok-contents-in-Err-Fault-clause-first g c =
@@ -95,17 +96,9 @@ returns-in_ok-contents-in-Err-Fault-clause-first g c =
     let names = c.args.names.now in
     let contents = c.in_ok-contents-in-Err-Fault.contents in
     let kept = c.in_ok-contents-in-Err-Fault.ensures in
-    let fault = c.in-Err-Fault.fault in
-    let recorded : IsRecorded d c.args.unknown c.args.levels c.args.bytes.now c.in-Err-Fault.fault =
-    subst (λ (e : Refusal). IsAnswer d c.args.unknown c.args.levels c.args.bytes.now (Err e)) c.in-Err-Fault.field-0-is c.in-Err-Fault.ensures.answer in
-    let small : contents.fault.code < 2 ^ 32 = subst (λ (f : Fault). f.code < 2 ^ 32) (sym kept.same.0) (recorded_code d u most request fault recorded) in
-    let head = subst (λ (h : Header). IsRequestHead h request) (sym kept.same.1) c.in-Some.ensures.reads in
-    let host : contents.names.host.now ≡ names.host.now = ap (λ (n : Names). n.host.now) kept.same.4 in
-    let realm : contents.names.realm.now ≡ names.realm.now = ap (λ (n : Names). n.realm.now) kept.same.4 in
-    let reads = subst (λ (f : Fault). AreRequestAvps f.reason (plains contents.request.items) request) (sym kept.same.0) kept.request in
-    let text = subst (λ (f : Fault). line (string_bytes contents.line) ≡ fault_line d f) (sym kept.same.0) kept.line in
-    let none = λ (of_header : IsOfHeader contents.fault.reason). kept.failed (subst (λ (f : Fault). IsOfHeader f.reason) kept.same.0 of_header) in
-    OnMade-map (λ (made : Made). AreTried d contents (attempts_for contents.fault.code) (Some made)) (HasFirstForm d u most names.host.now names.realm.now request) (made_first d u most names.host.now names.realm.now request contents small head kept.same.2 kept.same.3 host realm reads text none) c.report.result c.report.ensures.first
+    let are = are_contents d u most names request c.in-Some.header c.in-Err-Fault.fault contents kept.same c.in-Some.ensures.reads kept.request kept.failed kept.line in
+    OnMade-map (λ (made : Made). AreTried d contents (attempts_for contents.fault.code) (Some made)) (HasFirstForm d u most names.host.now names.realm.now request)
+    (made_first d u most names.host.now names.realm.now request contents are) c.report.result c.report.ensures.first
 
 pub returns-in_ok-contents-in-Err-Fault-clause-too_long : goal.returns-in_ok-contents-in-Err-Fault-clause-too_long
 returns-in_ok-contents-in-Err-Fault-clause-too_long g c is =
@@ -116,18 +109,44 @@ returns-in_ok-contents-in-Err-Fault-clause-too_long g c is =
     let names = c.args.names.now in
     let contents = c.in_ok-contents-in-Err-Fault.contents in
     let kept = c.in_ok-contents-in-Err-Fault.ensures in
-    let fault = c.in-Err-Fault.fault in
-    let recorded : IsRecorded d c.args.unknown c.args.levels c.args.bytes.now c.in-Err-Fault.fault =
-    subst (λ (e : Refusal). IsAnswer d c.args.unknown c.args.levels c.args.bytes.now (Err e)) c.in-Err-Fault.field-0-is c.in-Err-Fault.ensures.answer in
-    let small : contents.fault.code < 2 ^ 32 = subst (λ (f : Fault). f.code < 2 ^ 32) (sym kept.same.0) (recorded_code d u most request fault recorded) in
-    let head = subst (λ (h : Header). IsRequestHead h request) (sym kept.same.1) c.in-Some.ensures.reads in
-    let host : contents.names.host.now ≡ names.host.now = ap (λ (n : Names). n.host.now) kept.same.4 in
-    let realm : contents.names.realm.now ≡ names.realm.now = ap (λ (n : Names). n.realm.now) kept.same.4 in
-    let reads = subst (λ (f : Fault). AreRequestAvps f.reason (plains contents.request.items) request) (sym kept.same.0) kept.request in
-    let text = subst (λ (f : Fault). line (string_bytes contents.line) ≡ fault_line d f) (sym kept.same.0) kept.line in
-    let none = λ (of_header : IsOfHeader contents.fault.reason). kept.failed (subst (λ (f : Fault). IsOfHeader f.reason) kept.same.0 of_header) in
-    let here = subst (λ (f : Fault). IsRecorded d u most request f) (sym kept.same.0) recorded in
-    none_made d u most names.host.now names.realm.now request contents small head kept.same.2 kept.same.3 host realm reads text none here (on_too_long c.report.result c.report.ensures.none is)
+    let are = are_contents d u most names request c.in-Some.header c.in-Err-Fault.fault contents kept.same c.in-Some.ensures.reads kept.request kept.failed kept.line in
+    let recorded : IsRecorded d u most request c.in-Err-Fault.fault = subst (λ (e : Refusal). IsAnswer d u most request (Err e)) c.in-Err-Fault.field-0-is c.in-Err-Fault.ensures.answer in
+    let here : IsRecorded d u most request contents.fault = subst (λ (f : Fault). IsRecorded d u most request f) (sym kept.same.0) recorded in
+    let is_request : HasR contents.header.flags = subst (λ (h : Header). HasR h.flags) (sym kept.same.1) (c.is_request.ensures.0 c.if-not-is_request.false) in
+    let answered = answered_of d u most names.host.now names.realm.now request contents are is_request here c.report.result c.report.ensures.first c.report.ensures.none in
+    on_too_long c.report.result (IsAnswered d u most names.host.now names.realm.now request) answered (λ h. h) is
+
+pub returns-in_ok-contents-in-Err-Fault-clause-too_long_only : goal.returns-in_ok-contents-in-Err-Fault-clause-too_long_only
+returns-in_ok-contents-in-Err-Fault-clause-too_long_only g c h =
+    let d = g.B.Book.meaning c.args.book.now in
+    let u = c.args.unknown in
+    let most = c.args.levels in
+    let request = c.args.bytes.now in
+    let names = c.args.names.now in
+    let contents = c.in_ok-contents-in-Err-Fault.contents in
+    let kept = c.in_ok-contents-in-Err-Fault.ensures in
+    let are = are_contents d u most names request c.in-Some.header c.in-Err-Fault.fault contents kept.same c.in-Some.ensures.reads kept.request kept.failed kept.line in
+    let recorded : IsRecorded d u most request c.in-Err-Fault.fault = subst (λ (e : Refusal). IsAnswer d u most request (Err e)) c.in-Err-Fault.field-0-is c.in-Err-Fault.ensures.answer in
+    let here : IsRecorded d u most request contents.fault = subst (λ (f : Fault). IsRecorded d u most request f) (sym kept.same.0) recorded in
+    let is_request : HasR contents.header.flags = subst (λ (h : Header). HasR h.flags) (sym kept.same.1) (c.is_request.ensures.0 c.if-not-is_request.false) in
+    let answered = answered_of d u most names.host.now names.realm.now request contents are is_request here c.report.result c.report.ensures.first c.report.ensures.none in
+    too_long_only d u most names.host.now names.realm.now request (g.met.B.Book.sound c.args.book.now) c.report.result answered h
+
+pub returns-in_ok-contents-in-Err-Fault-clause-answered : goal.returns-in_ok-contents-in-Err-Fault-clause-answered
+returns-in_ok-contents-in-Err-Fault-clause-answered g c =
+    let d = g.B.Book.meaning c.args.book.now in
+    let u = c.args.unknown in
+    let most = c.args.levels in
+    let request = c.args.bytes.now in
+    let names = c.args.names.now in
+    let contents = c.in_ok-contents-in-Err-Fault.contents in
+    let kept = c.in_ok-contents-in-Err-Fault.ensures in
+    let are = are_contents d u most names request c.in-Some.header c.in-Err-Fault.fault contents kept.same c.in-Some.ensures.reads kept.request kept.failed kept.line in
+    let recorded : IsRecorded d u most request c.in-Err-Fault.fault = subst (λ (e : Refusal). IsAnswer d u most request (Err e)) c.in-Err-Fault.field-0-is c.in-Err-Fault.ensures.answer in
+    let here : IsRecorded d u most request contents.fault = subst (λ (f : Fault). IsRecorded d u most request f) (sym kept.same.0) recorded in
+    let is_request : HasR contents.header.flags = subst (λ (h : Header). HasR h.flags) (sym kept.same.1) (c.is_request.ensures.0 c.if-not-is_request.false) in
+    let answered = answered_of d u most names.host.now names.realm.now request contents are is_request here c.report.result c.report.ensures.first c.report.ensures.none in
+    answered
 
 pub returns-in_ok-contents-in-Err-Fault-clause-exact : goal.returns-in_ok-contents-in-Err-Fault-clause-exact
 returns-in_ok-contents-in-Err-Fault-clause-exact g c why other h =
@@ -169,3 +188,12 @@ returns-in_ok-contents-in-Err-Fault-clause-processed g c =
     let reads = c.in-Some.ensures.reads in
     let is_request = c.is_request.ensures.0 c.if-not-is_request.false in
     OnMade-map (IsAnswerOf d contents) (λ (made : Made). IsProcessed request made.fault.code made.form made.bytes.items) (λ made h. made_processed d contents made request c.in-Some.header kept.same.1 reads is_request h) c.report.result c.report.ensures.made
+
+pub returns-in-Ok-clause-too_long_only : goal.returns-in-Ok-clause-too_long_only
+returns-in-Ok-clause-too_long_only g c h =
+    let d = g.B.Book.meaning c.args.book.now in
+    let bytes = c.args.bytes.now in
+    let names = c.args.names.now in
+    let reads = c.in-Some.ensures.reads in
+    let is_request = c.is_request.ensures.0 c.if-not-is_request.false in
+    too_long_only d c.args.unknown c.args.levels names.host.now names.realm.now bytes (g.met.B.Book.sound c.args.book.now) (Ok (Err no_answer.Valid)) ((c.in-Some.header, reads, is_request), (c.in-Ok.field-0.def, c.in-Ok.ensures.answer)) h

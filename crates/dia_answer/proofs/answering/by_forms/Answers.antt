@@ -1,4 +1,4 @@
-use Rattle.std.proofs.Common.{◌≡◌, true, false, refl, sym, ◌∙◌}
+use Rattle.std.proofs.Common.{◌≡◌, true, false, sym, ◌∙◌}
 use Rattle.dia_answer.proofs.Attempts.{last_other, last_permanent}
 use Rattle.dia_answer.proofs.answering.by_forms.Goals as goal
 use Rattle.dia_answer.proofs.answering.by_forms.Goals.{then-is_permanent+in_ok-made+in_default, else-is_permanent}
