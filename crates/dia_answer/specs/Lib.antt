@@ -8,3 +8,4 @@ pub mod Sources
 pub mod Reports
 pub mod Names
 pub mod Outcome
+pub mod Lines
