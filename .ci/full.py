@@ -47,6 +47,7 @@ COMMANDS = """
   follow connection.txt
   follow --json connection.txt
   answer @base broken.hex
+  answer --lines @base requests.hex
   check --all @base broken.hex
   --help
   --version

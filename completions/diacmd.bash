@@ -33,7 +33,7 @@ _diacmd() {
             refute:-*) words='--quiet --unknown --levels --lines --json -h --help' ;;
             propose:-*) words='--quiet --unknown --json -h --help' ;;
             breaking:-*) words='--quiet --unknown --sends --messages --once --meaning --accepted --stale-allowed --explain --json -h --help' ;;
-            answer:-*) words='--quiet --unknown --levels --host --realm -h --help' ;;
+            answer:-*) words='--quiet --unknown --levels --host --realm --lines -h --help' ;;
             follow:-*) words='--quiet --dict --middle --check --unknown --levels --json -h --help' ;;
             mask:-*) words='--quiet --keep --mask --only --json -h --help' ;;
             uses:-*) words='--quiet --json -h --help' ;;

@@ -87,6 +87,7 @@ complete -c diacmd -n '__fish_seen_subcommand_from answer' -l unknown -x -a 'kep
 complete -c diacmd -n '__fish_seen_subcommand_from answer' -l levels -x -d 'How many levels of Grouped AVPs may be nested; without it, any number'
 complete -c diacmd -n '__fish_seen_subcommand_from answer' -l host -x -d 'The Origin-Host of the answer'
 complete -c diacmd -n '__fish_seen_subcommand_from answer' -l realm -x -d 'The Origin-Realm of the answer'
+complete -c diacmd -n '__fish_seen_subcommand_from answer' -l lines -d 'Answers each line, which is a request'
 complete -c diacmd -n '__fish_seen_subcommand_from answer' -s h -l help -d 'Print help'
 complete -c diacmd -n '__fish_seen_subcommand_from follow' -F
 complete -c diacmd -n '__fish_seen_subcommand_from follow' -l quiet -d 'Prints no notes on standard error'

@@ -13,6 +13,7 @@ pub mod Stocks
 pub mod Results
 pub mod Reasons
 pub mod Replies
+pub mod ReplyLines
 pub mod Building
 pub mod CerAnswers
 pub mod Groups

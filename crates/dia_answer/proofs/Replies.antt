@@ -10,8 +10,8 @@ use Rattle.dia_terms.specs.declared.Levels.{Levels}
 use Rattle.dia_report.specs.declared.Refused.TheVariants.{Bad}
 use Rattle.dia_report.specs.declared.BadInput.{BadInput}
 use Rattle.dia_report.specs.Refusals.{RecordsOf, bad_input_text, dictionary_line}
-use Rattle.dia_run.specs.Outcome.{IsMessageOutcome, ended, no_dictionary, no_message}
-use Rattle.dia_run.specs.Texts.{line, IsDictionaryText, IsNoDictionaryText, IsMessageText, IsNoMessageText}
+use Rattle.dia_run.specs.Outcome.{IsMessageOutcome, no_dictionary}
+use Rattle.dia_run.specs.Texts.{line, IsNoDictionaryText}
 use Rattle.dia_answer.specs.declared.forms.Made.{Made}
 use Rattle.dia_answer.specs.declared.forms.NoAnswer.{NoAnswer}
 use Rattle.dia_answer.specs.Reports.{IsNoAnswer, no_answer_word}
@@ -24,19 +24,6 @@ pub bad_dictionary : {E : Type 0} (u : Unknown) (most : Levels) (inputs : Inputs
     → IfOk r (λ a. IsMessageOutcome (IsAnswerText u most) inputs (string_bytes a.text) a.exit)
 bad_dictionary u most inputs why (Ok a) (w, lacks, is) text exit = no_dictionary w lacks (text ∙ ap line is, exit)
 bad_dictionary u most inputs why (Err e) h text exit = tt
-
-pub bad_message : {E : Type 0} (u : Unknown) (most : Levels) (inputs : Inputs) (d : Dictionary) (why : BadInput) (r : Result Answered E)
-    → IsDictionaryText inputs.first d → RecordsOf (IsNoMessageText inputs.message) (Bad why)
-    → IfOk r (λ a. string_bytes a.text ≡ line (bad_input_text why)) → IfOk r (λ a. a.exit ≡ exits.Bad)
-    → IfOk r (λ a. IsMessageOutcome (IsAnswerText u most) inputs (string_bytes a.text) a.exit)
-bad_message u most inputs d why (Ok a) is_d lacks text exit = no_message d (bad_input_text why) is_d lacks (text, exit)
-bad_message u most inputs d why (Err e) is_d lacks text exit = tt
-
-pub replied : {E : Type 0} (u : Unknown) (most : Levels) (inputs : Inputs) (d : Dictionary) (bytes : List ℕ) (r : Result Answered E) → IsDictionaryText inputs.first d
-    → IsMessageText inputs.message bytes → IfOk r (λ a. IsAnswerText u most d bytes (string_bytes a.text) a.exit)
-    → IfOk r (λ a. IsMessageOutcome (IsAnswerText u most) inputs (string_bytes a.text) a.exit)
-replied u most inputs d bytes (Ok a) is_d is_m h = ended d bytes is_d is_m h
-replied u most inputs d bytes (Err e) is_d is_m h = tt
 
 pub is_made : {E : Type 0} (u : Unknown) (most : Levels) (d : Dictionary) (bytes : List ℕ) (m : Made) (r : Result Answered E) → IsReply d u most bytes m
     → IfOk r (λ a. string_bytes a.text ≡ line (encode_lower m.bytes.items)) → IfOk r (λ a. a.exit ≡ exits.Yes) → IfOk r (λ a. IsAnswerText u most d bytes (string_bytes a.text) a.exit)

@@ -13,3 +13,4 @@ pub mod Names
 pub mod Outcome
 pub mod Strict
 pub mod OwnErrors
+pub mod Lines

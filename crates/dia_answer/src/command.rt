@@ -7,7 +7,8 @@ ghost use Rattle.dia_io.specs.declared.Exit.{Exit as AnyExit};
 ghost use Rattle.dia_io.specs.Writing.{AppendsFront};
 ghost use Rattle.dia_report.specs.Refusals.{bad_input_text};
 ghost use Rattle.dia_run.specs.Outcome.{IsMessageOutcome};
-ghost use Rattle.dia_run.specs.Texts.{IsDictionaryText, line};
+ghost use Rattle.dia_run.specs.Texts.{line};
+ghost use Rattle.dia_answer.specs.Lines.{IsLineAnswered};
 ghost use Rattle.dia_answer.specs.Reports.{no_answer_word};
 ghost use Rattle.dia_answer.specs.Outcome.{IsAnswerText};
 
@@ -15,9 +16,9 @@ use crate::answering::answer;
 use crate::forms::{Form, Made, NoAnswer};
 use crate::names::Names;
 use dia_dict::Book;
-use dia_io::{Exit, Inputs, RunFault, Sink, put_all};
+use dia_io::{Exit, Input, Inputs, RunFault, Sink, put_all};
 use dia_report::{BadInput, Refused};
-use dia_run::{read_dictionary, read_message};
+use dia_run::{Outcome, read_dictionary, read_message};
 use dia_terms::{Levels, Unknown};
 use std::alloc::{AllocError, Global};
 
@@ -41,10 +42,23 @@ pub struct Reported {
 
 /// What is written, how the command ends, and its report.
 #[derive(Drop)]
-struct Answered {
-    text: String,
-    exit: Exit,
+pub(crate) struct Answered {
+    pub text: String,
+    pub exit: Exit,
     report: Report,
+}
+
+impl Answered {
+    ghost use Rattle.std.specs.Prelude.{◌≡◌};
+
+    /// What is written, and how the command ends.
+    pub(crate) fn outcome(self) -> Outcome
+        ensures text { result.text ≡ self.text }
+        ensures exit { result.exit ≡ self.exit }
+    {
+        let Answered { text, exit, .. } = self;
+        Outcome { text, exit }
+    }
 }
 
 /// Writes the answer to the request that the message's input is, by the first dictionary, as a line of hexadecimal digits; or
@@ -87,26 +101,25 @@ fn text_for(
         (IsAnswerText unknown levels) inputs.now (string_bytes a.text) a.exit) }
 {
     match read_dictionary(alloc, 1, &inputs.first) {
-        Ok(first) => text_by(alloc, &first.book, unknown, levels, names, inputs),
+        Ok(first) => text_by(alloc, &first.book, unknown, levels, names, &inputs.message),
         Err(Refused::Bad(bad)) => refuse(alloc, bad),
         Err(Refused::NoMemory) => Err(AllocError),
     }
 }
 
-/// The same by the dictionary that was read.
-fn text_by<B: Book>(
+/// The text for the request that an input spells, by the dictionary that was read.
+pub(crate) fn text_by<B: Book>(
     alloc: Global,
     book: &B,
     unknown: Unknown,
     levels: Levels,
     names: &Names<'_>,
-    inputs: &Inputs,
+    message: &Input,
 ) -> Result<Answered, AllocError>
-    requires { IsDictionaryText inputs.now.first (B.meaning book.now) }
-    ensures { IfOk result (λ a. IsMessageOutcome
-        (IsAnswerText unknown levels) inputs.now (string_bytes a.text) a.exit) }
+    ensures { IfOk result (λ a. IsLineAnswered unknown levels
+        (B.meaning book.now) message.now (string_bytes a.text, a.exit)) }
 {
-    match read_message(alloc, &inputs.message) {
+    match read_message(alloc, message) {
         Ok(request) => reply(alloc, book, unknown, levels, names, &request),
         Err(Refused::Bad(bad)) => refuse(alloc, bad),
         Err(Refused::NoMemory) => Err(AllocError),

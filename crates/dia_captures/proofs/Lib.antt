@@ -1,9 +1,9 @@
-mod Counting
-mod Endings
-mod LinesOfMessages
+pub mod Counting
+pub mod Endings
+pub mod LinesOfMessages
 pub mod OneMessage
 mod ReasonsCounted
-mod Running
+pub mod Running
 pub mod RefusedRuns
 mod StreamOfMessages
 pub mod Summed

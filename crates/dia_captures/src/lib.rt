@@ -15,13 +15,15 @@ mod summaries;
 mod tally;
 mod verdicts;
 
+pub use ended::{Ended, is_yes};
 pub use judges::{CheckJudge, RefuteJudge, check_bytes, check_line};
 pub use laws::{
     check_of_line, one_check, one_check_of_lines, one_check_of_stream, one_refute,
     one_refute_of_lines, refute_of_line,
 };
 pub use runs::{
-    Captured, check_lines, check_stream, refute_lines, run_checks, run_refutations, run_stream,
+    Captured, check_lines, check_stream, refuse, refute_lines, run_checks, run_refutations,
+    run_stream,
 };
 pub use summaries::Lines;
 pub use tally::Tally;

@@ -41,7 +41,7 @@ pub struct Captured {
 
 impl Captured {
     /// How a command ended whose messages were read: yes or no.
-    fn ended(yes: bool, summary: Result<String, AllocError>) -> Self
+    pub fn ended(yes: bool, summary: Result<String, AllocError>) -> Self
         ensures exit { result.reported.exit ≡ (if yes then Exit.Yes else Exit.No) }
         ensures summary { result.summary ≡ Some summary }
         ensures report { result.reported.report ≡ Report.Done }
@@ -308,7 +308,7 @@ pub fn check_stream<F: Feed, S: Sink>(
 }
 
 /// Puts the line of a dictionary that is refused.
-fn refuse<S: Sink>(alloc: Global, refused: Refused, sink: &mut S) -> Result<Captured, LinesFault>
+pub fn refuse<S: Sink>(alloc: Global, refused: Refused, sink: &mut S) -> Result<Captured, LinesFault>
     requires { ¬ IsTrue (S.has_failed sink.old) }
     ensures exit { IfOk result (λ captured. captured.reported.exit ≡ Exit.Bad) }
     ensures summary { IfOk result (λ captured. captured.summary ≡ None) }

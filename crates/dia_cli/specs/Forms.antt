@@ -3,8 +3,9 @@ use Rattle.std.specs.Prelude.{◌≡◌, ⊤, Bool, true, false, List, [], ◌�
 use Rattle.std.specs.List.{list_all}
 use Rattle.clap.specs.Walk.{Text}
 use Rattle.dia_io.specs.declared.Command.TheVariants as command
+use Rattle.dia_cli.specs.declared.task.Answering.{Answering}
 use Rattle.dia_cli.specs.declared.task.Task.{Task}
-use Rattle.dia_cli.specs.declared.task.Task.TheVariants.{Whole, Make, ShowText, ShowNamed, ShowLines, Breaking, CheckLines, RefuteLines, CheckStream, CheckAll, Answer, Follow, Mask, Uses, Diff, Lint, Examples}
+use Rattle.dia_cli.specs.declared.task.Task.TheVariants.{Whole, Make, ShowText, ShowNamed, ShowLines, Breaking, CheckLines, RefuteLines, CheckStream, CheckAll, Answer, AnswerLines, Follow, Mask, Uses, Diff, Lint, Examples}
 use Rattle.dia_terms.specs.declared.Sends.{Sends}
 use Rattle.dia_terms.specs.declared.Unknown.{Unknown}
 use Rattle.dia_cli.specs.InputWords.{AreNamed, InputTexts, one_text, pair_texts}
@@ -42,7 +43,7 @@ pub data Layout : Type 0 where
 
 -- a command with its options and the words of its inputs. `--levels`, `--dict`, `--values` and `--accepted` are their words; `check`, `compare`
 -- and `propose` have `--json`, `refute` has `--lines` and `--json`, and `breaking` has `--json`, `--messages`, `--once`, `--meaning`,
--- `--stale-allowed` and `--explain`, or not; `answer` has the words of `--levels`, `--host` and `--realm`, and `follow` has `--json`, `--middle` and
+-- `--stale-allowed` and `--explain`, or not; `answer` has `--lines`, or not, and the words of `--levels`, `--host` and `--realm`, and `follow` has `--json`, `--middle` and
 -- `--check`, or not, and the words of `--levels` and `--dict`; `mask`, `uses`, `diff` and `lint` have `--json`, or not, and `lint` the words
 -- of `--only`, `--except` and `--accepted`
 pub data Form : Type 0 where
@@ -54,7 +55,7 @@ pub data Form : Type 0 where
   refute : Bool → Bool → Unknown → Option Text → Text → Text → Text → Form
   propose : Bool → Unknown → Text → Text → Text → List Text → Form
   breaking : Bool → Sends → Unknown → Bool → Bool → Bool → Bool → Bool → Option Text → Text → Text → List Text → Form
-  answer : Unknown → Option Text → Option Text → Option Text → Text → Text → Form
+  answer : Bool → Unknown → Option Text → Option Text → Option Text → Text → Text → Form
   follow : Bool → Bool → Bool → Unknown → Option Text → Option Text → Text → Form
   mask : Masked → Bool → Text → Text → Form
   uses : Bool → Text → Text → List Text → Form
@@ -72,7 +73,7 @@ form_row (compare json unknown first second table) = compare_row
 form_row (refute many json unknown levels first second message) = refute_row
 form_row (propose json unknown first second name names) = propose_row
 form_row (breaking json sends unknown messages once meaning allowed explained accepted first second names) = breaking_row
-form_row (answer unknown levels host realm dictionary message) = answer_row
+form_row (answer many unknown levels host realm dictionary message) = answer_row
 form_row (follow json middle judged unknown levels dictionary connection) = follow_row
 form_row (mask avps json dictionary messages) = mask_row
 form_row (uses json dictionary avp avps) = uses_row
@@ -160,8 +161,8 @@ form_options (breaking json sends unknown messages once meaning allowed explaine
     unknown_slot unknown ∷ choice (codes "sends") (sender_given sends) ∷ flag (codes "messages") messages
     ∷ flag (codes "once") once ∷ flag (codes "meaning") meaning ∷ flag (codes "stale-allowed") allowed ∷ flag (codes "explain") explained ∷ flag (codes "json") json
     ∷ text (codes "accepted") accepted ∷ []
-form_options (answer unknown levels host realm dictionary message) =
-    unknown_slot unknown ∷ text (codes "host") host ∷ text (codes "realm") realm ∷ number (codes "levels") levels ∷ []
+form_options (answer many unknown levels host realm dictionary message) =
+    unknown_slot unknown ∷ text (codes "host") host ∷ text (codes "realm") realm ∷ flag (codes "lines") many ∷ number (codes "levels") levels ∷ []
 form_options (follow json middle judged unknown levels dictionary connection) =
     text (codes "dict") dictionary ∷ flag (codes "middle") middle ∷ flag (codes "check") judged ∷ unknown_slot unknown
     ∷ flag (codes "json") json ∷ number (codes "levels") levels ∷ []
@@ -186,7 +187,7 @@ form_inputs (compare json unknown first second table) = pair_slots first second 
 form_inputs (refute many json unknown levels first second message) = pair_slots first second (word (codes "MESSAGE") message)
 form_inputs (propose json unknown first second name names) = pair_slots first second (words (codes "COMMAND") (name ∷ names))
 form_inputs (breaking json sends unknown messages once meaning allowed explained accepted first second names) = pair_slots first second (words (codes "COMMAND") names)
-form_inputs (answer unknown levels host realm dictionary message) = word (codes "D") dictionary ∷ word (codes "MESSAGE") message ∷ []
+form_inputs (answer many unknown levels host realm dictionary message) = word (codes "D") dictionary ∷ word (codes "MESSAGE") message ∷ []
 form_inputs (follow json middle judged unknown levels dictionary connection) = word (codes "CONNECTION") connection ∷ []
 form_inputs (mask avps json dictionary messages) = word (codes "D") dictionary ∷ word (codes "MESSAGES") messages ∷ []
 form_inputs (uses json dictionary avp avps) = word (codes "D") dictionary ∷ words (codes "AVP") (avp ∷ avps) ∷ []
@@ -195,6 +196,12 @@ form_inputs (lint json unknown only except accepted dictionary) = word (codes "D
 form_inputs (examples layout unknown dictionary names) = word (codes "D") dictionary ∷ words (codes "COMMAND") names ∷ []
 
 -- ---- its task, and the words of its inputs
+
+-- by what `answer` makes an answer
+abbrev pub IsAnsweringOf : Unknown → (levels host realm : Option Text) → Answering → Type 0
+IsAnsweringOf unknown levels host realm asked =
+    (asked.unknown ≡ unknown) × IsLimitOf levels asked.levels × (string_bytes asked.host ≡ unwrap_or host (codes "host.invalid"))
+    × (string_bytes asked.realm ≡ unwrap_or realm (codes "invalid"))
 
 -- the task is the form's
 abbrev pub IsTaskOfForm : Form → Task → Type 0
@@ -225,9 +232,8 @@ IsTaskOfForm (propose json unknown first second name names) (Whole (command.Prop
 IsTaskOfForm (breaking json sends unknown messages once meaning allowed explained accepted first second names) (Breaking asked) =
     (asked.sends ≡ sends) × (asked.unknown ≡ unknown) × (asked.messages ≡ messages) × (asked.once ≡ once) × (asked.meaning ≡ meaning)
     × (asked.stale_allowed ≡ allowed) × (asked.explain ≡ explained) × (map string_bytes asked.names.items ≡ names)
-IsTaskOfForm (answer unknown levels host realm dictionary message) (Answer asked) =
-    (asked.unknown ≡ unknown) × IsLimitOf levels asked.levels × (string_bytes asked.host ≡ unwrap_or host (codes "host.invalid"))
-    × (string_bytes asked.realm ≡ unwrap_or realm (codes "invalid"))
+IsTaskOfForm (answer false unknown levels host realm dictionary message) (Answer asked) = IsAnsweringOf unknown levels host realm asked
+IsTaskOfForm (answer true unknown levels host realm dictionary messages) (AnswerLines asked) = IsAnsweringOf unknown levels host realm asked
 IsTaskOfForm (follow json middle judged unknown levels dictionary connection) (Follow asked) =
     (asked.middle ≡ middle) × (asked.check ≡ judged) × (asked.unknown ≡ unknown) × IsLimitOf levels asked.levels
 IsTaskOfForm (mask avps json dictionary messages) (Mask asked) =
@@ -265,7 +271,8 @@ form_words (refute true json unknown levels first second messages) = record (pai
 form_words (propose json unknown first second name names) = pair_texts first second
 form_words (breaking json sends unknown messages once meaning allowed explained accepted first second names) =
     record (pair_texts first second) { table = Some (unwrap_or accepted (codes "@none")) }
-form_words (answer unknown levels host realm dictionary message) = record (one_text dictionary) { message = Some message }
+form_words (answer false unknown levels host realm dictionary message) = record (one_text dictionary) { message = Some message }
+form_words (answer true unknown levels host realm dictionary messages) = record (one_text dictionary) { messages = Some messages }
 form_words (follow json middle judged unknown levels dictionary connection) =
     record (one_text (unwrap_or dictionary (codes "@base"))) { messages = Some connection }
 form_words (mask avps json dictionary messages) = record (one_text dictionary) { messages = Some messages }

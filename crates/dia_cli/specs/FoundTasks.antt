@@ -3,8 +3,9 @@ use Rattle.std.specs.Prelude.{◌≡◌, ◌&&◌, ⊤, Bool, true, false, if◌
 use Rattle.std.specs.Str.{bytes_eq}
 use Rattle.clap.specs.Walk.{Row, Text, all_of, first_of}
 use Rattle.dia_io.specs.declared.Command.TheVariants as command
+use Rattle.dia_cli.specs.declared.task.Answering.{Answering}
 use Rattle.dia_cli.specs.declared.task.Task.{Task}
-use Rattle.dia_cli.specs.declared.task.Task.TheVariants.{Whole, Make, ShowText, ShowNamed, ShowLines, Breaking, CheckLines, RefuteLines, CheckStream, CheckAll, Answer, Follow, Mask, Uses, Diff, Lint, Examples}
+use Rattle.dia_cli.specs.declared.task.Task.TheVariants.{Whole, Make, ShowText, ShowNamed, ShowLines, Breaking, CheckLines, RefuteLines, CheckStream, CheckAll, Answer, AnswerLines, Follow, Mask, Uses, Diff, Lint, Examples}
 use Rattle.dia_terms.specs.declared.Levels.{Levels}
 use Rattle.dia_terms.specs.declared.Unknown.{Unknown}
 use Rattle.dia_cli.specs.InputWords.{InputTexts, one_text, pair_texts}
@@ -28,6 +29,7 @@ task_name (Whole (command.Propose unknown names)) = codes "propose"
 task_name (Breaking asked) = codes "breaking"
 task_name (CheckAll unknown levels) = codes "check"
 task_name (Answer asked) = codes "answer"
+task_name (AnswerLines asked) = codes "answer"
 task_name (Follow asked) = codes "follow"
 task_name (Mask asked) = codes "mask"
 task_name (Uses avps) = codes "uses"
@@ -49,6 +51,12 @@ abbrev pub IsShow : Bool → Bool → Bool → List Row → Type 0
 IsShow written names lines rows =
     (written ≡ is_given (first_of (codes "as-text") rows)) × (names ≡ is_given (first_of (codes "names") rows))
     × (lines ≡ is_given (first_of (codes "lines") rows)) × (apart_in rows ≡ None)
+
+-- `answer` with `--lines`, or without it
+abbrev pub IsAnswering : Bool → Answering → List Row → Type 0
+IsAnswering lines asked rows =
+    AreJudged asked.unknown asked.levels rows × (first_of (codes "host") rows ≡ Some (string_bytes asked.host))
+    × (first_of (codes "realm") rows ≡ Some (string_bytes asked.realm)) × IsFlag (codes "lines") lines rows
 
 -- what was found of a task's options: their first values, and all names of commands
 abbrev pub HasOptionsOf : Task → List Row → Type 0
@@ -72,9 +80,8 @@ HasOptionsOf (Breaking asked) rows =
     × IsFlag (codes "once") asked.once rows × IsFlag (codes "meaning") asked.meaning rows
     × IsFlag (codes "stale-allowed") asked.stale_allowed rows × IsFlag (codes "explain") asked.explain rows
     × (unwrap_or (all_of (codes "COMMAND") rows) [] ≡ map string_bytes asked.names.items)
-HasOptionsOf (Answer asked) rows =
-    AreJudged asked.unknown asked.levels rows × (first_of (codes "host") rows ≡ Some (string_bytes asked.host))
-    × (first_of (codes "realm") rows ≡ Some (string_bytes asked.realm))
+HasOptionsOf (Answer asked) rows = IsAnswering false asked rows
+HasOptionsOf (AnswerLines asked) rows = IsAnswering true asked rows
 HasOptionsOf (Follow asked) rows =
     AreJudged asked.unknown asked.levels rows × IsFlag (codes "middle") asked.middle rows × IsFlag (codes "check") asked.check rows
 HasOptionsOf (Mask asked) rows =
@@ -116,6 +123,7 @@ arguments_of (Whole (command.Propose unknown names)) = pair_texts (codes "A") (c
 arguments_of (Breaking asked) =
     record (pair_texts (codes "A") (codes "B")) { table = Some (codes "accepted") }
 arguments_of (Answer asked) = record (one_text (codes "D")) { message = Some (codes "MESSAGE") }
+arguments_of (AnswerLines asked) = record (one_text (codes "D")) { messages = Some (codes "MESSAGE") }
 arguments_of (Follow asked) = record (one_text (codes "dict")) { messages = Some (codes "CONNECTION") }
 arguments_of (Mask asked) = record (one_text (codes "D")) { messages = Some (codes "MESSAGES") }
 arguments_of (Uses avps) = one_text (codes "D")
@@ -141,7 +149,8 @@ has_checked rows = is_flag (first_of (codes "lines") rows) && (is_flag (first_of
     && (has_judged rows && has_word (codes "MESSAGE") rows))))
 
 abbrev pub has_answered : List Row → Bool
-has_answered rows = has_judged rows && (has_word (codes "MESSAGE") rows && (has_word (codes "host") rows && has_word (codes "realm") rows))
+has_answered rows = is_flag (first_of (codes "lines") rows)
+    && (has_judged rows && (has_word (codes "MESSAGE") rows && (has_word (codes "host") rows && has_word (codes "realm") rows)))
 
 abbrev pub has_followed : List Row → Bool
 has_followed rows = is_judged rows && (is_flag (first_of (codes "middle") rows) && (is_flag (first_of (codes "check") rows)

@@ -120,7 +120,7 @@ abbrev pub answer_row : CommandRow
 answer_row = record {
   name = codes "answer";
   options = quiet_option ∷ unknown_option ∷ levels_option ∷ option (codes "host") (any_word (codes "host.invalid"))
-      ∷ option (codes "realm") (any_word (codes "invalid")) ∷ [];
+      ∷ option (codes "realm") (any_word (codes "invalid")) ∷ option (codes "lines") no_value ∷ [];
   inputs = input (codes "D") one ∷ input (codes "MESSAGE") one ∷ [];
 }
 

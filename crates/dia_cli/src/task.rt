@@ -26,6 +26,8 @@ pub enum Task {
     CheckAll { unknown: Unknown, levels: Levels },
     /// Prints the answer that reports the first fault of a request.
     Answer(Answering),
+    /// Prints it for each line, a request.
+    AnswerLines(Answering),
     /// Prints where the ends of a connection depart from RFC 6733.
     Follow(Following),
     /// Prints messages with the data replaced that may identify subscribers or nodes.

@@ -106,6 +106,7 @@ task_says (task.RefuteLines u most) json w origins inputs out exit p = tt
 task_says (task.CheckStream u most) json w origins inputs out exit p = tt
 task_says (task.CheckAll u most) json w origins inputs out exit p = tt
 task_says (task.Answer asked) json w origins inputs out exit p = tt
+task_says (task.AnswerLines asked) json w origins inputs out exit p = tt
 task_says (task.Follow asked) json w origins inputs out exit p = tt
 task_says (task.Mask asked) json w origins inputs out exit p = tt
 task_says (task.Uses avps) json w origins inputs out exit p = tt

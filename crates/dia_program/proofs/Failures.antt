@@ -21,6 +21,7 @@ use Rattle.dia_cli.specs.declared.task.Task.{Task}
 use Rattle.dia_cli.specs.declared.task.Task.TheVariants as task
 use Rattle.dia_tasks.specs.Captures.{IsFailure}
 use Rattle.dia_tasks.specs.Endings.{Breaks}
+use Rattle.dia_tasks.specs.Replies.{named, unnamed}
 use Rattle.dia_tasks.specs.Tasks.{World}
 use Rattle.dia_program.specs.Breaking.{Lists}
 use Rattle.dia_program.specs.Program.{IsFailed, IsUntouched, Refuses, RequestEnds, TaskEnds, done, streams, unread}
@@ -53,6 +54,8 @@ task_failed (task.RefuteLines u most) json w origins inputs out made b = pieces_
 task_failed (task.CheckStream u most) json w origins inputs out made b = pieces_failed _ _ made b.0
 task_failed (task.CheckAll u most) json w origins inputs out made b = whole_failed _ out made b
 task_failed (task.Answer asked) json w origins inputs out made b = whole_failed _ out made b
+task_failed (task.AnswerLines asked) json w origins inputs out made (named names b) = pieces_failed _ _ made b.0
+task_failed (task.AnswerLines asked) json w origins inputs out made (unnamed b) = whole_failed _ out made b
 task_failed (task.Follow asked) json w origins inputs out made b = pieces_failed _ _ made b.0
 task_failed (task.Mask asked) json w origins inputs out made b = pieces_failed _ _ made b.0
 task_failed (task.Uses avps) json w origins inputs out made b = whole_failed _ out made b

@@ -21,5 +21,5 @@ mod performing;
 mod running;
 mod upgrading;
 
-pub use laws::{answers_say, captures_of_bytes, lists_of_bytes};
+pub use laws::{answers_say, captures_of_bytes, lists_of_bytes, replies_of_bytes};
 pub use running::{run, run_process};

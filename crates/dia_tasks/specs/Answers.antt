@@ -65,13 +65,20 @@ AreFaults u most d bytes text exit = IsAllRecorded d u most 1000 bytes text exit
 abbrev pub IsAllFaults : Unknown → Levels → Inputs → List ℕ → Exit → Type 0
 IsAllFaults u most inputs text exit = IsMessageOutcome (AreFaults u most) inputs text exit
 
--- `answer`: the answer that reports a request's first fault, or why there is none; or the first name of the node that is none
-pub data IsReplied (asked : Answering) (inputs : Inputs) (text : List ℕ) (exit : Exit) : Type 0 where
-  named : IsName (string_bytes asked.host) → IsName (string_bytes asked.realm)
-      → IsMessageOutcome (IsAnswerText asked.unknown asked.levels) inputs text exit → IsReplied asked inputs text exit
-  no_host : ¬ IsName (string_bytes asked.host) → text ≡ line (codes "answer: host") → exit ≡ Bad → IsReplied asked inputs text exit
+-- the names of the node that answers
+abbrev pub AreNames : Answering → Type 0
+AreNames asked = IsName (string_bytes asked.host) × IsName (string_bytes asked.realm)
+
+-- the first of these names that is none is refused
+pub data IsNoName (asked : Answering) (text : List ℕ) (exit : Exit) : Type 0 where
+  no_host : ¬ IsName (string_bytes asked.host) → text ≡ line (codes "answer: host") → exit ≡ Bad → IsNoName asked text exit
   no_realm : IsName (string_bytes asked.host) → ¬ IsName (string_bytes asked.realm) → text ≡ line (codes "answer: realm") → exit ≡ Bad
-      → IsReplied asked inputs text exit
+      → IsNoName asked text exit
+
+-- `answer`: the answer that reports a request's first fault, or why there is none; or a name of the node is refused
+pub data IsReplied (asked : Answering) (inputs : Inputs) (text : List ℕ) (exit : Exit) : Type 0 where
+  named : AreNames asked → IsMessageOutcome (IsAnswerText asked.unknown asked.levels) inputs text exit → IsReplied asked inputs text exit
+  unnamed : IsNoName asked text exit → IsReplied asked inputs text exit
 
 -- the line of a name that is none
 abbrev pub name_line : NameFault → List ℕ

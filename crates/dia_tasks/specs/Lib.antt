@@ -4,5 +4,6 @@ pub mod Connections
 pub mod Endings
 pub mod Lints
 pub mod Masked
+pub mod Replies
 pub mod Samples
 pub mod Tasks

@@ -14,6 +14,7 @@ use Rattle.dia_tasks.specs.Captures.{Captures, Lists, known_of, messages_word}
 use Rattle.dia_tasks.specs.Connections.{Follows}
 use Rattle.dia_tasks.specs.Lints.{question_of}
 use Rattle.dia_tasks.specs.Masked.{Masks}
+use Rattle.dia_tasks.specs.Replies.{Replies}
 use Rattle.dia_tasks.specs.Samples.{Samples, form_of}
 use Rattle.dia_diff.specs.Outcome.{IsDiffOutcome}
 use Rattle.dia_lint_text.specs.Outcome.{IsLintOutcome}
@@ -52,6 +53,8 @@ TaskRuns (task.CheckStream u most) json w origins inputs out ended =
     Captures Placed u most json inputs (messages_of w origins) (messages_word origins.messages) out ended
 TaskRuns (task.CheckAll u most) json w origins inputs out ended = Runs (IsAllFaults u most inputs) out ended
 TaskRuns (task.Answer asked) json w origins inputs out ended = Runs (IsReplied asked inputs) out ended
+TaskRuns (task.AnswerLines asked) json w origins inputs out ended =
+    Replies asked inputs (messages_of w origins) (messages_word origins.messages) out ended
 TaskRuns (task.Follow asked) json w origins inputs out ended =
     Follows asked json inputs (messages_of w origins) (messages_word origins.messages) out ended
 TaskRuns (task.Mask asked) json w origins inputs out ended =

@@ -230,8 +230,8 @@ where
     }
 }
 
-/// Writes how many lines are as they should be, and what the others say, unless an input is refused or the device fails.
-fn deliver<R: AllocGlobal + Eprint>(
+/// Writes the summary of lines, and what their text is if it has no messages, unless an input is refused or the device fails.
+pub fn deliver<R: AllocGlobal + Eprint>(
     rt: &R,
     lines: Lines,
     captured: &Captured,

@@ -15,6 +15,7 @@ mod masking;
 mod notes;
 mod recording;
 mod replying;
+mod replying_lines;
 mod running;
 mod showing;
 mod text;

@@ -87,7 +87,7 @@ fn text_of(form: Form) -> &'static str {
 }
 
 /// The line of a name that is refused.
-fn name_refused(alloc: Global, fault: NameFault) -> Result<Answered, AllocError>
+pub fn name_refused(alloc: Global, fault: NameFault) -> Result<Answered, AllocError>
     ensures text { IfOk result (λ answered. string_bytes answered.text ≡ name_line fault) }
     ensures exit { IfOk result (λ answered. answered.exit ≡ Bad) }
 {

@@ -17,6 +17,7 @@ use crate::manner::Manner;
 use crate::masking::masked;
 use crate::notes::{note, note_unnamed};
 use crate::replying::reply;
+use crate::replying_lines::reply_to_lines;
 use crate::showing::{show_json, show_named, show_words};
 use crate::text::{made, shown};
 use dia_captures::Lines;
@@ -120,6 +121,9 @@ where
             Attempt::Ended(list_faults(rt.alloc(), *unknown, *levels, inputs, out))
         }
         Task::Answer(asked) => Attempt::Ended(reply(rt, asked, inputs, quiet, out)),
+        Task::AnswerLines(asked) => {
+            Attempt::Ended(reply_to_lines(rt, opener, asked, inputs, origins, quiet, out))
+        }
         Task::Follow(asked) => {
             Attempt::Ended(followed(rt, opener, *asked, inputs, origins, manner, out))
         }

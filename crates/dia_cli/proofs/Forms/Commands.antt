@@ -9,7 +9,7 @@ use Rattle.clap.specs.declared.parser.matches.ValueSource.TheVariants.{CommandLi
 use Rattle.clap.proofs.OnLiterals.{clap_on_literals}
 use Rattle.dia_io.specs.declared.Command.TheVariants as command
 use Rattle.dia_cli.specs.declared.task.Task.{Task}
-use Rattle.dia_cli.specs.declared.task.Task.TheVariants.{Whole, Make, ShowText, ShowNamed, ShowLines, Breaking, CheckLines, RefuteLines, CheckStream, CheckAll, Answer, Follow, Mask, Uses, Diff, Lint, Examples}
+use Rattle.dia_cli.specs.declared.task.Task.TheVariants.{Whole, Make, ShowText, ShowNamed, ShowLines, Breaking, CheckLines, RefuteLines, CheckStream, CheckAll, Answer, AnswerLines, Follow, Mask, Uses, Diff, Lint, Examples}
 use Rattle.dia_terms.specs.declared.Sends.TheVariants.{Any, Known, Listed}
 use Rattle.dia_terms.specs.declared.Unknown.{Unknown}
 use Rattle.dia_terms.specs.declared.Unknown.TheVariants.{Kept, Refused}
@@ -61,8 +61,8 @@ module _ (policies senders : Bor (List (Bor Text))) (two : texts policies.now �
       row_fits policies senders two three breaking_row _ _ refl (refl, tt, (refl, policy_passes policies senders two three unknown, (refl, sender_passes policies senders two three sends, (refl, tt, (refl, tt, (refl, tt, (refl, tt, (refl, tt, (refl, tt, (refl, tt, tt))))))))))
       (record { by_index = refl; by_id = refl; next = refl }, (record { by_index = refl; by_id = refl; next = refl }, (false, record { by_index = refl; by_id = refl; next = refl })))
       refl refl refl refl
-  form_fits quiet (answer unknown levels host realm dictionary message) =
-      row_fits policies senders two three answer_row _ _ refl (refl, tt, (refl, policy_passes policies senders two three unknown, (refl, tt, (refl, tt, (refl, tt, tt)))))
+  form_fits quiet (answer many unknown levels host realm dictionary message) =
+      row_fits policies senders two three answer_row _ _ refl (refl, tt, (refl, policy_passes policies senders two three unknown, (refl, tt, (refl, tt, (refl, tt, (refl, tt, tt))))))
       (record { by_index = refl; by_id = refl; next = refl }, (record { by_index = refl; by_id = refl; next = refl }, tt)) refl refl refl refl
   form_fits quiet (follow json middle judged unknown levels dictionary connection) =
       row_fits policies senders two three follow_row _ _ refl (refl, tt, (refl, tt, (refl, tt, (refl, tt, (refl, policy_passes policies senders two three unknown, (refl, tt, (refl, tt, tt)))))))
@@ -93,7 +93,7 @@ module _ (policies senders : Bor (List (Bor Text))) (two : texts policies.now �
   form_named (refute many json unknown levels first second message) = (record { stops = refl; fine = refl; finds = refl; rest = refl }, refl)
   form_named (propose json unknown first second name names) = (record { stops = refl; fine = refl; finds = refl; rest = refl }, refl)
   form_named (breaking json sends unknown messages once meaning allowed explained accepted first second names) = (record { stops = refl; fine = refl; finds = refl; rest = refl }, refl)
-  form_named (answer unknown levels host realm dictionary message) = (record { stops = refl; fine = refl; finds = refl; rest = refl }, refl)
+  form_named (answer many unknown levels host realm dictionary message) = (record { stops = refl; fine = refl; finds = refl; rest = refl }, refl)
   form_named (follow json middle judged unknown levels dictionary connection) = (record { stops = refl; fine = refl; finds = refl; rest = refl }, refl)
   form_named (mask avps json dictionary messages) = (record { stops = refl; fine = refl; finds = refl; rest = refl }, refl)
   form_named (uses json dictionary avp avps) = (record { stops = refl; fine = refl; finds = refl; rest = refl }, refl)
@@ -130,10 +130,11 @@ SaysForm (breaking json sends unknown messages once meaning allowed explained ac
     × (all_of (codes "COMMAND") rows ≡ some_names names) × (first_of (codes "accepted") rows ≡ Some (unwrap_or accepted (codes "@none")))
     × (first_of (codes "once") rows ≡ Some (flag_word once)) × (first_of (codes "meaning") rows ≡ Some (flag_word meaning))
     × (first_of (codes "stale-allowed") rows ≡ Some (flag_word allowed)) × (first_of (codes "explain") rows ≡ Some (flag_word explained))
-SaysForm (answer unknown levels host realm dictionary message) rows =
+SaysForm (answer many unknown levels host realm dictionary message) rows =
     (first_of (codes "unknown") rows ≡ Some (policy_word unknown)) × (first_of (codes "levels") rows ≡ levels)
     × (first_of (codes "D") rows ≡ Some dictionary) × (first_of (codes "MESSAGE") rows ≡ Some message)
     × (first_of (codes "host") rows ≡ Some (unwrap_or host (codes "host.invalid"))) × (first_of (codes "realm") rows ≡ Some (unwrap_or realm (codes "invalid")))
+    × (first_of (codes "lines") rows ≡ Some (flag_word many))
 SaysForm (follow json middle judged unknown levels dictionary connection) rows =
     (first_of (codes "unknown") rows ≡ Some (policy_word unknown)) × (first_of (codes "levels") rows ≡ levels)
     × (first_of (codes "middle") rows ≡ Some (flag_word middle)) × (first_of (codes "check") rows ≡ Some (flag_word judged))
@@ -230,7 +231,7 @@ module _ (policies senders : Bor (List (Bor Text))) (quiet : Bool) (rows : List 
     ),
     flag_given json (first (codes "json") ∙ flag_found json),
   )
-  form_says (answer unknown levels host realm dictionary message) first all = (
+  form_says (answer many unknown levels host realm dictionary message) first all = (
     first (codes "quiet") ∙ flag_found quiet,
     (
       first (codes "unknown") ∙ policy_found unknown,
@@ -239,6 +240,7 @@ module _ (policies senders : Bor (List (Bor Text))) (quiet : Bool) (rows : List 
       first (codes "MESSAGE"),
       first (codes "host") ∙ text_found host (codes "host.invalid"),
       first (codes "realm") ∙ text_found realm (codes "invalid"),
+      first (codes "lines") ∙ flag_found many,
     ),
     not_given (first (codes "json")),
   )
@@ -321,10 +323,12 @@ form_has (breaking json sends unknown messages once meaning allowed explained ac
     also (has_policy _ unknown says.0.0) (also (pair_passes first second rows says.0.1 says.0.2)
     (also (has_sender _ sends says.1)
     (also (also (has_flag _ messages says.2) (also (has_flag _ once says.5) (also (has_flag _ meaning says.6) (also (has_flag _ allowed says.7) (has_flag _ explained says.8))))) (has_some _ (unwrap_or accepted (codes "@none")) says.4))))
-form_has (answer unknown levels host realm dictionary message) rows plain says =
-    also (also (also (has_policy _ unknown says.0) (has_limit _ levels says.1 (number_passes levels (form_inputs (answer unknown levels host realm dictionary message)) (later_plain (text (codes "realm") realm) (number (codes "levels") levels ∷ form_inputs (answer unknown levels host realm dictionary message))
-    (later_plain (text (codes "host") host) (text (codes "realm") realm ∷ number (codes "levels") levels ∷ form_inputs (answer unknown levels host realm dictionary message)) plain)))))
-    (has_some _ dictionary says.2)) (also (has_some _ message says.3) (also (has_some _ (unwrap_or host (codes "host.invalid")) says.4) (has_some _ (unwrap_or realm (codes "invalid")) says.5)))
+form_has (answer many unknown levels host realm dictionary message) rows plain says =
+    also (has_flag _ many says.6)
+    (also (also (also (has_policy _ unknown says.0) (has_limit _ levels says.1 (number_passes levels (form_inputs (answer many unknown levels host realm dictionary message))
+    (later_plain (text (codes "realm") realm) (flag (codes "lines") many ∷ number (codes "levels") levels ∷ form_inputs (answer many unknown levels host realm dictionary message))
+    (later_plain (text (codes "host") host) (text (codes "realm") realm ∷ flag (codes "lines") many ∷ number (codes "levels") levels ∷ form_inputs (answer many unknown levels host realm dictionary message)) plain)))))
+    (has_some _ dictionary says.2)) (also (has_some _ message says.3) (also (has_some _ (unwrap_or host (codes "host.invalid")) says.4) (has_some _ (unwrap_or realm (codes "invalid")) says.5))))
 form_has (follow json middle judged unknown levels dictionary connection) rows plain says =
     also (also (has_policy _ unknown says.0) (has_limit _ levels says.1 (number_passes levels (form_inputs (follow json middle judged unknown levels dictionary connection)) (later_plain (text (codes "dict") dictionary)
     (flag (codes "middle") middle ∷ flag (codes "check") judged ∷ unknown_slot unknown ∷ flag (codes "json") json ∷ number (codes "levels") levels ∷ form_inputs (follow json middle judged unknown levels dictionary connection)) plain))))
@@ -429,7 +433,7 @@ asked_is (breaking json sends unknown messages once meaning allowed explained ac
   ),
   table_named origins rows first second says.0.1 says.0.2 (codes "accepted") (unwrap_or accepted (codes "@none")) says.4 found,
 )
-asked_is (answer unknown levels host realm dictionary message) rows (Answer asked) origins says named is found = (
+asked_is (answer false unknown levels host realm dictionary message) rows (Answer asked) origins says named is found = (
   (
     same_policy _ _ _ is.0.0 says.0,
     same_limit _ _ asked.levels says.1 is.0.1,
@@ -438,6 +442,17 @@ asked_is (answer unknown levels host realm dictionary message) rows (Answer aske
   ),
   message_named origins rows (codes "D") dictionary (codes "MESSAGE") message says.2 says.3 found,
 )
+asked_is (answer true unknown levels host realm dictionary messages) rows (AnswerLines asked) origins says named is found = (
+  (
+    same_policy _ _ _ is.0.0 says.0,
+    same_limit _ _ asked.levels says.1 is.0.1,
+    same_value _ _ _ is.1 says.4,
+    same_value _ _ _ is.2 says.5,
+  ),
+  messages_named origins rows (codes "D") dictionary (codes "MESSAGE") messages says.2 says.3 found,
+)
+asked_is (answer false unknown levels host realm dictionary message) rows (AnswerLines asked) origins says named is found = other_flag _ true false is.3 says.6 not_false
+asked_is (answer true unknown levels host realm dictionary message) rows (Answer asked) origins says named is found = other_flag _ false true is.3 says.6 not_true
 asked_is (follow json middle judged unknown levels dictionary connection) rows (Follow asked) origins says named is found = (
   (
     same_flag _ _ _ is.1 says.2,
@@ -465,7 +480,7 @@ asked_is (examples layout unknown dictionary names) rows (Examples asked) origin
 )
 asked_is (breaking json sends unknown messages once meaning allowed explained accepted first second names) rows (Whole command.Show) origins says named is found = unlike (codes "breaking") (codes "show") refl named
 asked_is (make dictionary values written) rows (Whole command.Show) origins says named is found = unlike (codes "make") (codes "show") refl named
-asked_is (answer unknown levels host realm dictionary message) rows (Whole command.Show) origins says named is found = unlike (codes "answer") (codes "show") refl named
+asked_is (answer many unknown levels host realm dictionary message) rows (Whole command.Show) origins says named is found = unlike (codes "answer") (codes "show") refl named
 asked_is (follow json middle judged unknown levels dictionary connection) rows (Whole command.Show) origins says named is found = unlike (codes "follow") (codes "show") refl named
 asked_is (mask avps json dictionary messages) rows (Whole command.Show) origins says named is found = unlike (codes "mask") (codes "show") refl named
 asked_is (uses json dictionary avp avps) rows (Whole command.Show) origins says named is found = unlike (codes "uses") (codes "show") refl named

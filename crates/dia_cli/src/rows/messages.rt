@@ -107,13 +107,18 @@ const ANSWER: CommandRow<'static> = CommandRow {
             },
             help: "The Origin-Realm of the answer",
         },
+        OptionRow {
+            id: "lines",
+            value: Value::Nothing,
+            help: "Answers each line, which is a request",
+        },
     ],
     inputs: &[
         D,
         InputRow {
             id: "MESSAGE",
             count: Count::One,
-            help: "A file of hexadecimal text, white space ignored; - for standard input",
+            help: "A file of hexadecimal text, white space ignored; with --lines, of a request a line; - for standard input",
         },
     ],
 };
