@@ -171,8 +171,8 @@ fn push_spot(note: &mut Note, side: &Side<'_>, at: Option<usize>) {
     }
 }
 
-/// The text of the part that begins at a place: of a rule or a head to the end of its bracket, of a declaration to the next part, a
-/// comment or the end of the line.
+/// The text of the part that begins at a place: of a rule or a head to the end of its bracket, of a declaration to the next
+/// part, a comment or the end of the line.
 fn part_from(text: &[u8], at: usize) -> &[u8] {
     let rest = text.get(at..).unwrap_or(&[]);
     let rest = rest.get(..MOST_SHOWN).unwrap_or(rest);

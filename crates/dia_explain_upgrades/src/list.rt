@@ -102,7 +102,7 @@ pub fn push_unused(note: &mut Note, list: &NamedText<'_>, unused: &[Entry], stal
         " lines accept nothing\n",
     );
     if !stale.is_empty() {
-        note.put("hint: what such a line tells doesn't break any more, so the line can go\n");
+        note.put("hint: what such a line accepts doesn't break any more, so remove the line\n");
     }
     push_unasked(note, list, unused, stale);
 }

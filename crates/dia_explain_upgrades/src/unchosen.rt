@@ -165,7 +165,7 @@ fn push_offers(note: &mut Note, texts: &InputTexts<'_>, command: &str, app: u32,
     } else {
         push_numbers(note, new);
     }
-    note.put(", so what breaks behind that line isn't told\n")
+    note.put(", so nothing is compared after that line\n")
 }
 
 /// Adds `for applications 6, 7 and 8`, of at least two commands.

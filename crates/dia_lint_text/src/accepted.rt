@@ -1,19 +1,18 @@
 //! The list of accepted lines.
-ghost use Rattle.std.specs.Prelude.{◌≡◌, ◌++◌, ◌∷◌, [], IfErr, IfOk, IfSome, None, ◌+◌, ◌-◌, ◌≤◌, OnOk, Some};
-ghost use Rattle.std.specs.Prelude.{if◌then◌else◌, map, string_bytes, codes, length};
-ghost use Rattle.std.specs.Option.{option_map};
+ghost use Rattle.std.specs.Prelude.{◌≡◌, ◌++◌, IfErr, IfOk, IfSome, None, ◌+◌, ◌-◌, ◌≤◌, OnOk, Some};
+ghost use Rattle.std.specs.Prelude.{map, string_bytes, codes, length};
 ghost use Rattle.std.specs.Str.Lines.{lines};
 ghost use Rattle.dia_accepted.specs.Accepted.{plain_entry};
 ghost use Rattle.dia_accepted.specs.Words.{entry_text};
 ghost use Rattle.dia_lint_text.specs.Asking.{has_in};
 ghost use Rattle.dia_lint_text.specs.Lists.{HasLine, IsListText, IsNoListText, asked_entry, counted_words, dotted, entries_by};
-ghost use Rattle.dia_lint_text.specs.Lists.{entries_from, fault_from, form_of, is_skipped, line_fault};
+ghost use Rattle.dia_lint_text.specs.Lists.{entries_from, fault_from, form_of, line_fault};
 ghost use Rattle.dia_explain_places.specs.Tables.{start_of_line};
 ghost use Rattle.dia_lint_text.specs.Forms.{plain_form};
 
 use crate::choice::Choice;
-use crate::form::{Form, entry_text, form_of};
-use dia_accepted::{Entry, MAX_LINES, MAX_LIST};
+use crate::form::{Form, form_of};
+use dia_accepted::{Entry, MAX_LINES, MAX_LIST, entry_text};
 use dia_explain_places::start_of_line;
 use dia_io::Input;
 use dia_lint::Rule;
@@ -80,7 +79,8 @@ pub(crate) fn read_accepted(
     input: &Input,
     choice: &Choice,
 ) -> Result<Result<Vec<Entry>, BadList>, AllocError>
-    ensures list { IfOk result (λ read. IfOk read (λ list. IsListText (has_in choice.now.chosen.items) input.now (map plain_entry list.items))) }
+    ensures list { IfOk result (λ read. IfOk read
+        (λ list. IsListText (has_in choice.now.chosen.items) input.now (map plain_entry list.items))) }
     ensures bad { IfOk result (λ read. IfErr read (IsNoListText input.now)) }
 {
     let Some(bytes) = input.within(MAX_LIST) else {

@@ -1,13 +1,12 @@
 //! The form of an accepted line: `RULE SUBJECT: DETAIL`.
-ghost use Rattle.std.specs.Prelude.{◌≡◌, ◌==◌, IfErr, IfOk, None, Some, unwrap_or};
+ghost use Rattle.std.specs.Prelude.{◌≡◌, ◌==◌, IfErr, IfOk, None, Some};
 ghost use Rattle.std.specs.Char.{is_ascii_digit};
 ghost use Rattle.std.specs.List.{after_first, list_all};
 ghost use Rattle.std.specs.Option.{option_map};
-ghost use Rattle.dia_accepted.specs.Words.{before_hash, ends_blank, entry_text};
 ghost use Rattle.dia_lint_text.specs.Forms.{plain_form};
-ghost use Rattle.dia_lint_text.specs.Lists.{after_first_place, after_place, after_space, faulty_rest, form_of, is_number};
+ghost use Rattle.dia_lint_text.specs.Lists.{after_place, after_space, faulty_rest, form_of, is_number};
 ghost use Rattle.dia_lint_text.specs.Lists.{is_of_subject, is_subject, rule_and_rest, split_at, subject_and_detail};
-ghost use Rattle.dia_lint_text.specs.Lists.{after_column, without_place};
+ghost use Rattle.dia_lint_text.specs.Lists.{without_place};
 
 use dia_lint::Rule;
 
@@ -18,35 +17,6 @@ pub(crate) struct Form<'a> {
     /// A command, group or AVP; or `*` for all.
     pub subject: &'a str,
     pub detail: &'a str,
-}
-
-/// The entry of a line, without a comment, which begins with the first `#` if white space or nothing precedes it,
-/// and without white
-/// space at its end.
-pub(crate) fn entry_text(line: &str) -> &str
-    ensures { result.now ≡ entry_text line.now }
-{
-    let before = before_hash(line);
-    if ends_blank(before) {
-        before.trim_end()
-    } else {
-        line.trim_end()
-    }
-}
-
-fn before_hash(line: &str) -> &str
-    ensures { result.now ≡ before_hash line.now }
-{
-    match line.split_once('#') {
-        Some((before, _)) => before,
-        None => line,
-    }
-}
-
-fn ends_blank(text: &str) -> bool
-    ensures { result ≡ ends_blank text.now }
-{
-    text.trim_end().len() < text.len() || text.len() == 0
 }
 
 /// The parts of an entry; or its rest from the fault on.

@@ -11,7 +11,7 @@ use Rattle.dia_upgrades_json.specs.LineObjects.{cause_object, line_object}
 use Rattle.dia_upgrades_json.specs.Members.{unsigned_field}
 use Rattle.dia_upgrades_json.specs.SpotTexts.{both_in, spelt}
 use Rattle.dia_upgrades_json.specs.Spots.{PlainSpelt, PlainTexts, place_fields}
-use Rattle.dia_explain_places.specs.Places.{column_at, line_at}
+use Rattle.dia_explain_places.specs.Places.{column_at}
 use Rattle.dia_explain_places.specs.Tables.{line_from, start_of_line}
 use Rattle.dia_ccf.specs.declared.source.Source.{Source}
 use Rattle.dia_ccf.specs.Plain.{plain_source}

@@ -1,5 +1,5 @@
 -- Where the dictionaries' texts have what a line of `breaking` is about, as members.
-use Rattle.std.specs.Prelude.{ℕ, ◌-◌, List, [], ◌∷◌, ◌++◌, codes, length, slice_get, Option, Some, None}
+use Rattle.std.specs.Prelude.{ℕ, ◌-◌, List, [], ◌∷◌, ◌++◌, codes, length, slice_get, Option, Some}
 use Rattle.std.specs.Option.{option_map_or}
 use Rattle.dia_breaking.specs.LineParts.{PlainParts, PlainSubject}
 use Rattle.dia_breaking.specs.LineParts as subjects

@@ -1,6 +1,6 @@
 //! The objects after those of lines: the stale entries, and how much there is of all; or why nothing was compared.
 
-ghost use Rattle.std.specs.Prelude.{◌≡◌, ◌++◌, IfOk, List, OnOk, codes, string_bytes, ℕ};
+ghost use Rattle.std.specs.Prelude.{◌≡◌, ◌++◌, IfOk, List, OnOk, codes, string_bytes};
 ghost use Rattle.dia_accepted.specs.Accepted.{plain_entry};
 ghost use Rattle.dia_upgrades_json.specs.Fields.{Adds, Field, fields_text};
 ghost use Rattle.dia_upgrades_json.specs.Members.{unsigned_field};

@@ -1,6 +1,6 @@
 //! The texts of members, each with the comma before it.
 
-ghost use Rattle.std.specs.Prelude.{◌≡◌, ◌∷◌, [], IfOk, List, OnOk, Option, codes, false, map, string_bytes, true};
+ghost use Rattle.std.specs.Prelude.{◌≡◌, ◌∷◌, [], IfOk, List, OnOk, false, string_bytes, true};
 ghost use Rattle.serde_json.specs.Data.{Data, boolean, null};
 ghost use Rattle.serde_json.specs.Written.{compact_text};
 ghost use Rattle.json.specs.Print.{quoted};
@@ -43,7 +43,8 @@ pub(crate) fn push_field(
     name: &str,
     value: &str,
 ) -> Result<(), AllocError>
-    ensures { OnOk result ((recorded : Data) → value.now ≡ compact_text recorded → Adds out.old out.new ((name.now, recorded) ∷ [])) }
+    ensures { OnOk result ((recorded : Data) → value.now ≡ compact_text recorded
+        → Adds out.old out.new ((name.now, recorded) ∷ [])) }
 {
     let name = quoted(alloc, name)?;
     write!(out, ",{name}:{value}")

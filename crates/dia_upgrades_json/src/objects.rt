@@ -29,7 +29,9 @@ pub fn line_object(
     words: &str,
     message: Option<&str>,
 ) -> Result<String, AllocError>
-    ensures { IfOk result (λ text. string_bytes text ≡ line_object (key_in names.now.first) (key_in names.now.second) (both_in names.now.texts.value)
+    ensures { IfOk result
+        (λ text. string_bytes text
+        ≡ line_object (key_in names.now.first) (key_in names.now.second) (both_in names.now.texts.value)
         (plain_parts parts.now) words.now (option_map (λ digits. digits.now) message.entry)) }
 {
     let place = path_members(alloc, &parts.path)?;
@@ -46,7 +48,9 @@ pub fn cause_object(
     words: &str,
     message: Option<&str>,
 ) -> Result<String, AllocError>
-    ensures { IfOk result (λ text. string_bytes text ≡ cause_object (key_in names.now.first) (key_in names.now.second) (both_in names.now.texts.value) commands
+    ensures { IfOk result
+        (λ text. string_bytes text
+        ≡ cause_object (key_in names.now.first) (key_in names.now.second) (both_in names.now.texts.value) commands
         (plain_parts parts.now) words.now (option_map (λ digits. digits.now) message.entry)) }
 {
     let place = first_members(alloc, commands, &parts.path)?;
@@ -63,7 +67,8 @@ fn object_at(
     message: Option<&str>,
 ) -> Result<String, AllocError>
     ensures { IfOk result (λ text. (members : List Field) → place.now ≡ fields_text members → string_bytes text
-        ≡ compact_text (object_of (fields_at members (key_in names.now.first) (key_in names.now.second) (both_in names.now.texts.value)
+        ≡ compact_text (object_of (fields_at members (key_in names.now.first) (key_in names.now.second)
+        (both_in names.now.texts.value)
         (plain_parts parts.now) words.now (option_map (λ digits. digits.now) message.entry)))) }
 {
     let mut fields = String::new(alloc);

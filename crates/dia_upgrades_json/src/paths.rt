@@ -5,7 +5,7 @@ ghost use Rattle.std.specs.List.{flat_map};
 ghost use Rattle.serde_json.specs.Data.{array};
 ghost use Rattle.serde_json.specs.Written.{compact_text};
 ghost use Rattle.dia_breaking.specs.LineParts.{plain_path};
-ghost use Rattle.dia_upgrades_json.specs.Fields.{Adds, fields_text, name_text, object_of, strings};
+ghost use Rattle.dia_upgrades_json.specs.Fields.{Adds, fields_text, name_text, strings};
 ghost use Rattle.dia_upgrades_json.specs.LineObjects.{application_field, first_fields, path_fields};
 
 use crate::fields::{

@@ -1,8 +1,5 @@
 //! An answer as objects, each on a line.
 
-ghost use Rattle.std.specs.Prelude.{OnOk, string_bytes};
-ghost use Rattle.dia_upgrades.specs.Writing.{Adds};
-
 use crate::ending::{bad_list_line, counts_line, no_command_line, no_commands_line, stale_line};
 use crate::keys::Names;
 use crate::objects::{cause_object, line_object};
