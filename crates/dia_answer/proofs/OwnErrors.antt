@@ -37,17 +37,19 @@ use Rattle.dia_answer.specs.declared.forms.Made.{Made}
 use Rattle.dia_answer.specs.Contents.{full}
 use Rattle.dia_answer.specs.Dictionaries.{failed_avp, grouped_failed, opaque}
 use Rattle.dia_answer.specs.Names.{IsName}
-use Rattle.dia_answer.specs.Requests.{AreFront, AreRequestAvps}
+use Rattle.dia_answer.specs.Requests.{AreBytes, AreFront, AreRequestAvps}
 use Rattle.dia_answer.specs.Stocks.{IsFitOf, TakesData, copied, copied_by, error_message, has_format, is_nest, is_text, may_hold, own}
 use Rattle.dia_answer.specs.Bodies.{AreThose, IsSession, IsStock, Parts, error_messages, failed_avps, in_order, may_fail, proxy_info, session_id}
 use Rattle.dia_answer.specs.Sources.{in_extent}
 use Rattle.dia_answer.specs.Reports.{HasFirstForm, HasNoneBy, IsByFirst, IsOfForm, answer_header, attempts_for, attempts_in}
-use Rattle.dia_answer.specs.OwnErrors.{HasErrorsOfBase, HasRoom, error_rules}
+use Rattle.dia_answer.specs.OwnErrors.{CanBeWritten, HasErrorsOfBase, HoldsBytes, error_rules}
 use Rattle.dia_answer.proofs.ErrorFits.{FitsAlone, failed_fits, message_fits, own_fits, proxies_fit, session_fits}
 use Rattle.dia_answer.proofs.ErrorLevels.{error_placed}
 use Rattle.dia_answer.proofs.Flags.{cleared, made_flags}
 use Rattle.dia_answer.proofs.OctetsLookups.{groups_here, low, select_here}
 use Rattle.dia_answer.proofs.SpelledAnswers.{IsPlain, written}
+use Rattle.dia_answer.proofs.Writings.{bytes_cases}
+use Rattle.dia_dict.specs.Base.{base}
 use Rattle.dia_answer.proofs.Strict.{all_in_order, all_those}
 use Rattle.dia_answer.proofs.StrictAnswers.{commands_same, joined}
 
@@ -249,11 +251,12 @@ module _ (d : Dictionary) (is : IsDictionary d) (own_errors : HasErrorsOfBase d)
         },
       )
 
-  made_by : (p : Parts) (h : Header) (n : ℕ) (head : List ℕ) (avps : List PlainAvp) → AreSound p → IsHead (answer_header h form.Error) n head → IsStock d form.Error error_rules p avps → ¬ IsTooLong (in_order error_rules avps)
+  made_by : (p : Parts) (h : Header) (n : ℕ) (head : List ℕ) (avps : List PlainAvp) → AreSound p → IsHead (answer_header h form.Error) n head → AreBytes head → IsStock d form.Error error_rules p avps
+      → AllByRecursion HoldsBytes avps → ¬ IsTooLong (in_order error_rules avps)
       → (bytes : List ℕ) × IsOfForm d h form.Error p bytes
-  made_by p h n head avps sound is_head s room =
+  made_by p h n head avps sound is_head head_are s hold room =
       let plain = all_in_order IsPlain error_rules avps (stock_plain d error_rules p avps sound.agree s) in
-      let made = written (answer_header h form.Error) n head (in_order error_rules avps) is_head plain room in
+      let made = written (answer_header h form.Error) n head (in_order error_rules avps) is_head head_are plain (all_in_order HoldsBytes error_rules avps hold) room in
       let rules = sym own_errors.rules in
       let at = into_right (groups d) d.commands own_errors.place own_errors.command own_errors.at in (
         made.0,
@@ -265,6 +268,7 @@ module _ (d : Dictionary) (is : IsDictionary d) (own_errors : HasErrorsOfBase d)
           listed = tt;
           room = subst (λ (rs : List DRule). ¬ IsTooLong (in_order rs avps)) rules room;
           message = subst (λ (rs : List DRule). MessageWithZeros (answer_header h form.Error) (in_order rs avps) made.0) rules made.1;
+          are_bytes = made.2;
           valid = valid p h avps made.0 sound s made.1.message;
         },
       )
@@ -298,7 +302,7 @@ in_either e p sound = record { agree = sound.agree; host = sound.host; realm = s
 
 -- no error message was made by the dictionary, but some message with this header
 abbrev IsBeyond : Dictionary → Header → Parts → Type 0
-IsBeyond d h p = (e : Extent) × HasNoneBy d h p (record { form = form.Error; extent = e }) × ((n : ℕ) × (head : List ℕ) × IsHead (answer_header h form.Error) n head)
+IsBeyond d h p = (e : Extent) × HasNoneBy d h p (record { form = form.Error; extent = e }) × ((n : ℕ) × (head : List ℕ) × IsHead (answer_header h form.Error) n head × AreBytes head)
 
 abbrev is_base : Form → Bool
 is_base form.Base = true
@@ -306,6 +310,12 @@ is_base f = false
 
 other_form : {X : Type 0} (f : Form) → form.Base ≡ f → is_base f ≡ false → X
 other_form f e other = absurd (let bad : true ≡ false = ap is_base e ∙ other in cc)
+
+header_of : (d : Dictionary) (h : Header) (p : Parts) (e : Extent) (bytes : List ℕ) → IsOfForm base h form.Base (in_extent e p) bytes
+    → (n : ℕ) × (head : List ℕ) × IsHead (answer_header h form.Error) n head × AreBytes head
+header_of d h p e bytes is =
+    let m = is.message.message in
+    (length bytes, m.head, m.is_head, (bytes_cases m.head m.body (subst AreBytes m.parts is.are_bytes)).0)
 
 first_base : (d : Dictionary) (h : Header) (p : Parts) (code : ℕ) (bytes : List ℕ) → IsByFirst d h p (attempts_for code) form.Base bytes → IsBeyond d h p
 first_base d h p code bytes first = by (code / 1000 == 5) first
@@ -316,29 +326,30 @@ first_base d h p code bytes first = by (code / 1000 == 5) first
     by : (b : Bool) → IsByFirst d h p (attempts_in extent.Full (forms b) ++ attempts_in extent.Bare (forms b)) form.Base bytes → IsBeyond d h p
     by true (inl (e, is)) = other_form form.Own e refl
     by true (inr (none, inl (e, is))) = other_form form.Error e refl
-    by true (inr (none, inr (none_full, inl (e, is)))) = (extent.Full, none_full, (_, _, is.message.message.is_head))
+    by true (inr (none, inr (none_full, inl (e, is)))) = (extent.Full, none_full, header_of d h p extent.Full bytes is)
     by true (inr (none, inr (none_full, inr (none_base, inl (e, is))))) = other_form form.Own e refl
     by true (inr (none, inr (none_full, inr (none_base, inr (none_own, inl (e, is)))))) = other_form form.Error e refl
-    by true (inr (none, inr (none_full, inr (none_base, inr (none_own, inr (none_bare, inl (e, is))))))) = (extent.Full, none_full, (_, _, is.message.message.is_head))
+    by true (inr (none, inr (none_full, inr (none_base, inr (none_own, inr (none_bare, inl (e, is))))))) = (extent.Full, none_full, header_of d h p extent.Bare bytes is)
     by true (inr (none, inr (none_full, inr (none_base, inr (none_own, inr (none_bare, inr (none_bare_base, bad))))))) = absurd bad
     by false (inl (e, is)) = other_form form.Error e refl
-    by false (inr (none_full, inl (e, is))) = (extent.Full, none_full, (_, _, is.message.message.is_head))
+    by false (inr (none_full, inl (e, is))) = (extent.Full, none_full, header_of d h p extent.Full bytes is)
     by false (inr (none_full, inr (none_base, inl (e, is)))) = other_form form.Error e refl
-    by false (inr (none_full, inr (none_base, inr (none_bare, inl (e, is))))) = (extent.Full, none_full, (_, _, is.message.message.is_head))
+    by false (inr (none_full, inr (none_base, inr (none_bare, inl (e, is))))) = (extent.Full, none_full, header_of d h p extent.Bare bytes is)
     by false (inr (none_full, inr (none_base, inr (none_bare, inr (none_bare_base, bad))))) = absurd bad
 
 pub own_errors : (d : Dictionary) (u : Unknown) (most : Levels) (host realm request : List ℕ) (made : Made) → IsDictionary d → HasErrorsOfBase d → IsName host → IsName realm
-    → (f : HasFirstForm d u most host realm request made) → HasRoom d f.parts → made.form ≢ form.Base
+    → (f : HasFirstForm d u most host realm request made) → CanBeWritten d f.parts → made.form ≢ form.Base
 own_errors d u most host realm request made is errors is_host is_realm f room is_base_form =
     let p = f.parts in
     let sound : AreSound p = record {
       agree = request_agrees made.fault.reason p.request request f.are_parts.reads;
       host = subst IsName (sym f.are_parts.is_host) is_host;
       realm = subst IsName (sym f.are_parts.is_realm) is_realm;
-      code = f.are_parts.code.width;
+      code = ap length f.are_parts.code;
       text = λ bytes at. subst IsUtf8 (same_Some f.are_parts.text bytes (sym f.are_parts.has_text ∙ at)) f.are_parts.is_utf8;
     } in
-    let (e, none, (n, head, is_head)) = first_base d f.header p made.fault.code made.bytes.items (subst (λ (x : Form). IsByFirst d f.header p (attempts_for made.fault.code) x made.bytes.items) is_base_form f.first) in
+    let (e, none, (n, head, is_head, head_are)) = first_base d f.header p made.fault.code made.bytes.items (subst (λ (x : Form). IsByFirst d f.header p (attempts_for made.fault.code) x made.bytes.items) is_base_form f.first) in
     with_stock d error_rules (in_extent e p) (λ avps s.
-    let b = made_by d is errors (in_extent e p) f.header n head avps (in_either e p sound) is_head s (room e avps s) in
+    let written_by = room e avps s in
+    let b = made_by d is errors (in_extent e p) f.header n head avps (in_either e p sound) is_head head_are s written_by.0 written_by.1 in
     none b.0 b.1)

@@ -14,7 +14,7 @@ pub are_bytes : (bytes : List ℕ) → ((k : ℕ) → get_or bytes k 0 < 256) �
 are_bytes [] h = tt
 are_bytes (b ∷ bytes) h = (h 0, are_bytes bytes (λ k. h (suc k)))
 
-bytes_cases : (a b : List ℕ) → AreBytes (a ++ b) → AreBytes a × AreBytes b
+pub bytes_cases : (a b : List ℕ) → AreBytes (a ++ b) → AreBytes a × AreBytes b
 bytes_cases [] b h = (tt, h)
 bytes_cases (x ∷ a) b h = let r = bytes_cases a b h.1 in ((h.0, r.0), r.1)
 

@@ -1,5 +1,6 @@
 -- Where a dictionary's own error message always serves (RFC 6733 section 7.2).
-use Rattle.std.specs.Prelude.{◌≡◌, ◌≢◌, ℕ, List, [], Some, slice_get, IfSome}
+use Rattle.std.specs.Prelude.{◌≡◌, ◌≢◌, ◌<◌, ℕ, List, [], Some, slice_get, IfSome}
+use Rattle.std.specs.List.{AllByRecursion}
 use Rattle.std.specs.Option.{option_map_or}
 use Rattle.dia_wire.specs.declared.Key.{Key}
 use Rattle.dia_wire.specs.Wire.{PlainAvp, IsTooLong}
@@ -13,6 +14,7 @@ use Rattle.dia_dict.specs.Base.{base}
 use Rattle.dia_valid.specs.Valid.{known}
 use Rattle.dia_answer.specs.declared.contents.Extent.{Extent}
 use Rattle.dia_answer.specs.declared.forms.Form.TheVariants as form
+use Rattle.dia_answer.specs.Requests.{AreBytes}
 use Rattle.dia_answer.specs.Stocks.{error_message}
 use Rattle.dia_answer.specs.Bodies.{IsStock, Parts, in_order, origin_host, origin_realm, result_code}
 use Rattle.dia_answer.specs.Sources.{in_extent}
@@ -36,6 +38,10 @@ pub record HasErrorsOfBase (d : Dictionary) : Type 0 where
   pub realm : HasFormat d origin_realm DiameterIdentity
   pub message : IfSome (known d error_message) (λ e. e.rule ≢ Must)
 
--- a message has room for each error message of these parts
-abbrev pub HasRoom : Dictionary → Parts → Type 0
-HasRoom d p = (e : Extent) (avps : List PlainAvp) → IsStock d form.Error error_rules (in_extent e p) avps → ¬ IsTooLong (in_order error_rules avps)
+-- the flags and the data of an AVP are bytes
+abbrev pub HoldsBytes : PlainAvp → Type 0
+HoldsBytes v = (v.flags < 256) × AreBytes v.bytes
+
+-- each error message of these parts can be written: its AVPs hold bytes, and a message has room for them
+abbrev pub CanBeWritten : Dictionary → Parts → Type 0
+CanBeWritten d p = (e : Extent) (avps : List PlainAvp) → IsStock d form.Error error_rules (in_extent e p) avps → AllByRecursion HoldsBytes avps × (¬ IsTooLong (in_order error_rules avps))

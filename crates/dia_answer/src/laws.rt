@@ -11,7 +11,7 @@ ghost use Rattle.dia_answer.specs.declared.forms.Made.{Made as AnyMade};
 ghost use Rattle.dia_answer.specs.declared.forms.NoAnswer.{NoAnswer as AnyNoAnswer};
 ghost use Rattle.dia_answer.specs.Requests.{IsRequestHead};
 ghost use Rattle.dia_answer.specs.Names.{IsName};
-ghost use Rattle.dia_answer.specs.OwnErrors.{HasErrorsOfBase, HasRoom};
+ghost use Rattle.dia_answer.specs.OwnErrors.{CanBeWritten, HasErrorsOfBase};
 ghost use Rattle.dia_answer.specs.Reports.{AreSame, HasBody, HasFirstForm, IsAnswered, IsValidBy, form_dictionary};
 ghost use Rattle.dia_answer.specs.Strict.{AreNoGroups, HasFittingFailed};
 
@@ -41,7 +41,7 @@ pub fn valid_where_failed_fits()
 pub fn own_error_message()
     ensures { (d : Dictionary) (u : AnyUnknown) (most : AnyLevels) (host realm request : List ℕ) (made : AnyMade)
         → IsDictionary d → HasErrorsOfBase d → IsName host → IsName realm
-        → (first : HasFirstForm d u most host realm request made) → HasRoom d first.parts → made.form ≢ Form.Base }
+        → (first : HasFirstForm d u most host realm request made) → CanBeWritten d first.parts → made.form ≢ Form.Base }
 {}
 
 /// A request gets one answer: what `answer` answers of the same bytes by the same dictionary, with the same policy and limit of
