@@ -308,7 +308,11 @@ pub fn check_stream<F: Feed, S: Sink>(
 }
 
 /// Puts the line of a dictionary that is refused.
-pub fn refuse<S: Sink>(alloc: Global, refused: Refused, sink: &mut S) -> Result<Captured, LinesFault>
+pub fn refuse<S: Sink>(
+    alloc: Global,
+    refused: Refused,
+    sink: &mut S,
+) -> Result<Captured, LinesFault>
     requires { ¬ IsTrue (S.has_failed sink.old) }
     ensures exit { IfOk result (λ captured. captured.reported.exit ≡ Exit.Bad) }
     ensures summary { IfOk result (λ captured. captured.summary ≡ None) }

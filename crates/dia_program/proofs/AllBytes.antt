@@ -84,6 +84,6 @@ pub replies_of_bytes : (asked : Answering) (inputs : Inputs) (bytes word : List 
     → Replies asked inputs (Some bytes) word out (Ok reported) → Runs (AreAllReplied asked inputs bytes) out (Ok reported)
 replies_of_bytes asked inputs bytes word out reported (replies.named names p) =
     let (text, is, is_put) =
-        lines_of_bytes (answer.replies asked.unknown asked.levels) (λ ended exit. ends_well ended.each exit) inputs bytes p.1.0 out reported.exit p.1.1 p.1.2.0 p.1.2.1 in
+    lines_of_bytes (answer.replies asked.unknown asked.levels) (λ ended exit. ends_well ended.each exit) inputs bytes p.1.0 out reported.exit p.1.1 p.1.2.0 p.1.2.1 in
     (p.0, (text, named names is, is_put))
 replies_of_bytes asked inputs bytes word out reported (replies.unnamed (live, (text, is, is_put))) = (live, (text, unnamed is, is_put))

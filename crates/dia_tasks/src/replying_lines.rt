@@ -38,7 +38,16 @@ where
         (⟦<ToWriter<W> as Sink>⟧.has_failed out.new)) result }
 {
     match Names::new(asked.host.as_str(), asked.realm.as_str()) {
-        Ok(names) => reply_to_all(rt, opener, asked, &names, inputs, origins.messages, quiet, out),
+        Ok(names) => reply_to_all(
+            rt,
+            opener,
+            asked,
+            &names,
+            inputs,
+            origins.messages,
+            quiet,
+            out,
+        ),
         Err(fault) => put_answer(name_refused(rt.alloc(), fault), out),
     }
 }
@@ -74,16 +83,7 @@ where
         },
         _ => {
             let reader = opener.standard_input();
-            reply_to_reader(
-                rt,
-                asked,
-                names,
-                inputs,
-                reader,
-                STANDARD_INPUT,
-                quiet,
-                out,
-            )
+            reply_to_reader(rt, asked, names, inputs, reader, STANDARD_INPUT, quiet, out)
         }
     }
 }
