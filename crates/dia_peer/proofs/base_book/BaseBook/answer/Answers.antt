@@ -1,5 +1,5 @@
 use Rattle.std.proofs.Common.{◌≡◌, ℕ, List, Result, Ok, Err, subst}
-use Rattle.std.specs.Prelude.{IfOk}
+use Rattle.std.specs.Prelude.{IfErr, IfOk}
 use Rattle.std.specs.declared.alloc.AllocError.{AllocError}
 use Rattle.dia_wire.specs.Number.{IsField}
 use Rattle.dia_book.specs.Dictionary.{Dictionary}
@@ -10,7 +10,7 @@ use Rattle.dia_check.specs.Faults.{IsRecorded}
 use Rattle.dia_answer.specs.declared.forms.Made.{Made}
 use Rattle.dia_answer.specs.declared.forms.NoAnswer.{NoAnswer}
 use Rattle.dia_answer.specs.Bodies.{origin_host, origin_realm, result_code}
-use Rattle.dia_answer.specs.Reports.{HasBody, HasCopies, HasOne, IsFormFor, IsProcessed, IsValidBy, OnMade, form_dictionary}
+use Rattle.dia_answer.specs.Reports.{HasBody, HasCopies, HasOne, IsFormFor, IsNoAnswer, IsProcessed, IsValidBy, OnMade, form_dictionary}
 use Rattle.dia_peer.specs.Replies.{IsMade}
 use Rattle.dia_peer.proofs.base_book.BaseBook.answer.Goals as goal
 
@@ -39,3 +39,6 @@ pub returns-clause-made : goal.returns-clause-made
 returns-clause-made c =
     let a = c.answer.ensures in
     all_said _ c.args.names.now.host.now c.args.names.now.realm.now c.args.bytes.now c.answer.result c.args.self.now.is_base a.first_fault a.valid a.processed a.permanent a.result_code a.origin_host a.origin_realm a.copies a.body
+
+pub returns-clause-none : goal.returns-clause-none
+returns-clause-none c = subst (λ (x : Dictionary). IfOk c.answer.result (λ found. IfErr found (IsNoAnswer x Kept Any c.args.bytes.now))) c.args.self.now.is_base c.answer.ensures.no_answer
