@@ -12,7 +12,7 @@ use Rattle.dia_peer.specs.declared.config.Ip.{Ip}
 use Rattle.dia_peer.specs.Core.{PlainConfig, Pair, pair_of}
 use Rattle.dia_peer.specs.Messages.{avp, avp32, app_code, spelled, address, origin, capabilities, applications, if_some, plain_app, vendor_app, NamesPair, Advertises}
 use Rattle.dia_peer.proofs.Sets.{IsIn, to_in, of_in, in_cases, in_left, in_right, in_map, into_map, in_filter_map, into_filter_map, same_fields}
-use Rattle.dia_peer.proofs.SpelledMessages.{one_list}
+use Rattle.dia_answer.proofs.Messages.{one_list}
 
 -- ---- AVPs of other codes
 

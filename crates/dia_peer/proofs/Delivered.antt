@@ -75,7 +75,8 @@ use Rattle.dia_peer.specs.Messages.{
 }
 use Rattle.dia_peer.specs.World.{AreBytes, IsPastOpen}
 use Rattle.dia_peer.proofs.Sets.{IsIn, to_in, of_in, in_cases}
-use Rattle.dia_peer.proofs.SpelledMessages.{one_message, has_length}
+use Rattle.dia_answer.proofs.Messages.{one_message}
+use Rattle.dia_peer.proofs.SpelledMessages.{has_length}
 use Rattle.dia_peer.proofs.Advertised.{Held, quiet_front, quiet_answer, from_advertised, into_advertised, vendor_code, plain_code, three_cases, code_same, byte_sum}
 use Rattle.dia_peer.proofs.SentValues.{Says, cer_says, cea_says}
 use Rattle.dia_peer.proofs.Replies.{IsSomeReply, reply_no_request, reply_no_success}

@@ -19,7 +19,7 @@ use Rattle.dia_peer.proofs.SentValues.{Says, values_are}
 use Rattle.dia_peer.specs.World.{End, World, Event, Start, Tick, Stop, Lose, TakeIds, Hear, Deliver, AreBytes, AreSpelled, Goes, Takes, AreSpelledAfter, Spoil, KnowEachOther, HappensAt, Happens, Run, start, AreShared, IsCommon, HoldsShared, HoldSame, IsPastOpen, RepeatsAnswer, Agrees}
 use Rattle.dia_peer.proofs.Sets.{IsIn, to_in, of_in, in_cases, in_left, in_right, eq_self}
 use Rattle.dia_peer.proofs.Commons.{relays_same, common_is, common_turns}
-use Rattle.dia_peer.proofs.SpelledMessages.{one_writing}
+use Rattle.dia_answer.proofs.Writings.{one_writing}
 use Rattle.dia_peer.proofs.Moves.{Suits, may_later, AllMay, Opened, stays, by_answer, by_request, Moves, lived}
 use Rattle.dia_peer.proofs.Delivered.{IsSentBy, WasSent, of_table, in_reply, is_request, received_cer, received_cea}
 use Rattle.dia_peer.specs.Replies.{IsReplied, is_refused}

@@ -15,7 +15,7 @@ use Rattle.dia_peer.specs.declared.config.Kind.{Kind}
 use Rattle.dia_peer.specs.Core.{Pair, pair}
 use Rattle.dia_peer.specs.Incoming.{kind_of, named_by, SaidBy, NamesApplication, HasNumber, Records, IsReadable, is_vendor_specific, is_result_code, IsResult, HasCode}
 use Rattle.dia_peer.proofs.Sets.{IsIn}
-use Rattle.dia_peer.proofs.SpelledMessages.{one_list}
+use Rattle.dia_answer.proofs.Messages.{one_list}
 
 -- ---- the first AVP of a level
 

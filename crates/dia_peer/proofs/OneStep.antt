@@ -44,7 +44,9 @@ use Rattle.dia_peer.specs.Machine.{IsHappening, IsOutput, AreOutputs, kept_at}
 use Rattle.dia_peer.specs.Outputs.{SentBytes, ClosedFor, plain_output, SendsBytes}
 use Rattle.dia_peer.proofs.Sets.{eq_same}
 use Rattle.dia_peer.proofs.Orders.{one_list}
-use Rattle.dia_peer.proofs.SpelledMessages.{one_message, has_length, one_writing}
+use Rattle.dia_answer.proofs.Messages.{one_message}
+use Rattle.dia_answer.proofs.Writings.{one_writing}
+use Rattle.dia_peer.proofs.SpelledMessages.{has_length}
 use Rattle.dia_peer.proofs.Delivered.{code_at}
 use Rattle.dia_peer.proofs.OneResult.{one_result}
 use Rattle.dia_peer.proofs.ResultCode.{never}

@@ -31,7 +31,7 @@ use Rattle.dia_peer.specs.Life.{heard, noticed, hears, lives}
 use Rattle.dia_peer.specs.Values.{keeps, newer}
 use Rattle.dia_peer.specs.Replies.{IsReplied, IsReply, IsReplyOf, is_refused, may_reply, replies}
 use Rattle.dia_peer.proofs.Sets.{IsIn, to_in}
-use Rattle.dia_peer.proofs.SpelledMessages.{one_message}
+use Rattle.dia_answer.proofs.Messages.{one_message}
 use Rattle.dia_peer.proofs.ResultCode.{never}
 
 -- ---- what is refused

@@ -17,7 +17,7 @@ use Rattle.dia_check.specs.declared.Levels.TheVariants.{Any}
 use Rattle.dia_valid.specs.Valid.{IsValid, HasR, HasE, Placed, class_of}
 use Rattle.dia_peer.specs.Incoming.{SaidBy, IsResult, is_result_code}
 use Rattle.dia_peer.proofs.Sets.{IsIn}
-use Rattle.dia_peer.proofs.SpelledMessages.{one_message}
+use Rattle.dia_answer.proofs.Messages.{one_message}
 use Rattle.dia_peer.proofs.LevelWalks.{into_said}
 
 found_first : (p : Key → Bool) (v : PlainAvp) (vs : List PlainAvp) (b : Bool) → p (key_of v) ≡ b → 1 ≤ count_by p (map key_of (v ∷ vs))

@@ -10,7 +10,7 @@ use Rattle.dia_peer.specs.declared.kept_requests.Ids.{Ids}
 use Rattle.dia_peer.specs.Core.{PlainConfig, PlainCore}
 use Rattle.dia_peer.specs.Messages.{avp, avp32, address, capabilities, applications, if_some, cer, cea}
 use Rattle.dia_peer.specs.Values.{has_code, first_data, IsValue, AreValuesOf}
-use Rattle.dia_peer.proofs.SpelledMessages.{head_size, one_list}
+use Rattle.dia_answer.proofs.Messages.{head_size, one_list}
 
 -- the bytes say this of an end of this configuration
 pub record Says (c : PlainConfig) (bytes : List ℕ) : Type 0 where

@@ -17,7 +17,7 @@ use Rattle.dia_peer.specs.declared.kept_requests.Ids.{Ids}
 use Rattle.dia_peer.specs.Messages.{IsGood, IsOurCode}
 use Rattle.dia_peer.specs.Incoming.{kind_of, HasNumber, IsReadable, HasCode, is_vendor_specific}
 use Rattle.dia_peer.proofs.Sets.{eq_same}
-use Rattle.dia_peer.proofs.SpelledMessages.{head_size}
+use Rattle.dia_answer.proofs.Messages.{head_size}
 
 -- ---- what base says of the AVPs of a few keys
 
