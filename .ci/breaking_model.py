@@ -158,11 +158,40 @@ class Model:
 
     # ---- least levels
 
+    def is_open(self, definition):
+        """Whether AVPs are sent by the wildcard."""
+        wild = definition.wildcard()
+        if not wild or self.sends == "listed":
+            return False
+        if self.sends == "filled":
+            return wild.low == 0 < wild.high and all(rule.high == 0 for rule in definition.rules if rule.key is not None)
+        return True
+
     def strangers(self, definition):
         """The keys that come through the wildcard."""
-        if self.sends == "listed" or not definition.wildcard():
+        if not self.is_open(definition):
             return []
         return [key for key in self.keys if not definition.rule(key)]
+
+    def sends_level(self, definition, data):
+        """Whether these AVPs, which are as A's rules say, come as A's side sends them, at every depth."""
+        while data:
+            vendor = data[16:24] if int(data[8:10], 16) & 128 else ""
+            key, size = key_of(int(data[:8], 16), int(vendor or "0", 16)), int(data[10:16], 16)
+            entry = self.a.entries.get(key)
+            if not definition.rule(key) and not (self.is_open(definition) and (entry or self.sends == "any")):
+                return False
+            if entry and entry.group and not self.sends_level(entry.group, data[16 + len(vendor) : 2 * size]):
+                return False
+            data = data[2 * padded(size) :]
+        return True
+
+    def sends_message(self, message):
+        """The same of a message of a command of A, in hexadecimal digits."""
+        app = int(message[16:24], 16)
+        named = [command for command in self.a.commands if command.app == app]
+        command = (named or [command for command in self.a.commands if command.app is None] or [None])[0]
+        return command is not None and self.sends_level(command, message[40:])
 
     def fill(self, n, keys):
         """The least length of n AVPs of these keys, where each may come any number of times."""
@@ -413,7 +442,10 @@ class Model:
             best[key] = (path, detail, length)
 
     def name(self, key):
+        """A's name, else B's, but for the name of another AVP of A, else `AVP`."""
         entry = self.a.entries.get(key) or self.b.entries.get(key)
+        if entry and key not in self.a.entries and any(other.name == entry.name for other in self.a.entries.values()):
+            return f"{key[0]}:{key[1]}"
         return entry.name if entry else "AVP"
 
     def flag_for(self, request, code, app):
@@ -434,11 +466,11 @@ class Model:
             if b is None and len(new) == 1:
                 yield f"{command.name}[application {new[0].app}]", None, new[0]
             return
-        free = next(n for n in itertools.count() if n not in named and all(d.app != n for d in others))
-        yield command.name, self.refusal(others, free) if own is None else None, own
         for d in others:
             if d.app is not None and d.app not in named:
                 yield f"{command.name}[application {d.app}]", None, d
+        free = next(n for n in itertools.count() if n not in named and all(d.app != n for d in others))
+        yield command.name, self.refusal(others, free) if own is None else None, own
 
     def refusal(self, others, app):
         return f"application {app}" if others else "command"

@@ -30,7 +30,15 @@ APPLICATIONS = [
 """The commands of a dictionary, each with the application that it names."""
 
 
+def open_rules(draw, keys):
+    """A wildcard, and rules that forbid: they say nothing of the AVPs that occur."""
+    forbidden = draw.sample(keys, draw.randint(0, min(2, len(keys))))
+    return " ".join([f"*0 [ K{key} ]" for key in forbidden] + [draw.choice(["* [ AVP ]", "*2 [ AVP ]", "[ AVP ]", "*0 [ AVP ]"])])
+
+
 def rules(draw, keys):
+    if draw.random() < 0.1:
+        return open_rules(draw, keys)
     parts = []
     chosen = draw.sample(keys, draw.randint(0, min(3, len(keys))))
     fixed = draw.choice([0, 0, 1, 2])

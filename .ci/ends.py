@@ -1,9 +1,11 @@
 """Other ends of connections over loopback: programs with the lines that they write, sockets that speak Diameter, and freeDiameterd."""
 
+import fcntl
 import pathlib
 import re
 import shutil
 import socket
+import struct
 import subprocess
 import threading
 import time
@@ -11,6 +13,7 @@ import traceback
 
 from outside import avp, avps, number
 
+SIOCGIFADDR = 0x8915
 PATIENCE = 45
 """How long a line may take to come, in seconds, on a busy machine."""
 
@@ -135,6 +138,25 @@ def free_port():
     with socket.socket() as found:
         found.bind(("127.0.0.1", 0))
         return found.getsockname()[1]
+
+
+def address_of(interface):
+    """The IPv4 address of an interface, or None."""
+    with socket.socket(socket.AF_INET, socket.SOCK_DGRAM) as asked:
+        try:
+            found = fcntl.ioctl(asked, SIOCGIFADDR, struct.pack("256s", interface.encode()))
+        except OSError:
+            return None
+    return socket.inet_ntoa(found[20:24])
+
+
+def has_interface(what):
+    """Whether there is an interface beside loopback: without its address freeDiameterd has none for its CER, and ends."""
+    addresses = filter(None, (address_of(name) for _, name in socket.if_nameindex()))
+    found = any(not address.startswith("127.") for address in addresses)
+    if not found:
+        print(f"skipped: {what}: freeDiameterd wants an interface with an IPv4 address beside loopback")
+    return found
 
 
 def wait_until_listening(port):

@@ -36,6 +36,10 @@ class Keys(dict):
         """The name of the AVP of a key."""
         return next((name for name, other in self.items() if other == key), None)
 
+    def own_name(self, subject):
+        """The name of an AVP that the other dictionary doesn't have, by its name or by CODE:VENDOR."""
+        return self.named(tuple(map(int, subject.split(":")))) if ":" in subject else subject
+
     def avp_at(self, name):
         """The place of an AVP: of its declaration, else of its definition."""
         return self.declared[name] if name in self.declared else self.groups[name]["at"] if name in self.groups else None
@@ -95,10 +99,10 @@ def places_of(answer, first, second):
         if place["path"]:
             group = place["path"][-1]
             own, other = first.groups.get(group), second.groups.get(second.named(first.get(group)))
-        name = second.named(first.get(subject)) or subject
+        name = second.named(first[subject]) or "AVP" if subject in first else second.own_name(subject)
         found = own and rule_at(own, subject), other and rule_at(other, name)
     else:
-        name = second.named(first[subject]) if subject in first else subject
+        name = second.named(first[subject]) if subject in first else second.own_name(subject)
         found = first.avp_at(subject), name and second.avp_at(name)
     return {side: keys.position(at) for side, keys, at in zip("ab", (first, second), found) if at is not None}
 
@@ -163,7 +167,7 @@ def wrong_in(answer, first, second):
             return f"counts {way}"
     if "avp" in answer:
         name = answer["avp"]["name"]
-        mine, other = first.get(name), second.get(name)
+        mine, other = first.get(name), second.get(second.own_name(name))
         wanted = {"name": name}
         wanted |= dict(zip(("code", "vendor"), mine or other or ()))
         wanted |= {"second": dict(zip(("code", "vendor"), other))} if mine and other and mine != other else {}

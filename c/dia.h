@@ -509,9 +509,10 @@ size_t dia_table_place(const uint8_t *table, size_t table_len, uint32_t kind, ui
 
 /* Which messages a side sends that goes by its dictionary. */
 enum {
-    DIA_SENDS_ANY = 0,   /* also AVPs that the dictionary does not know, with M clear, where a rule lets any in */
-    DIA_SENDS_KNOWN = 1, /* AVPs that the dictionary knows */
-    DIA_SENDS_LISTED = 2 /* AVPs that a rule of their level names */
+    DIA_SENDS_ANY = 0,    /* also AVPs that the dictionary does not know, with M clear, where a rule lets any in */
+    DIA_SENDS_KNOWN = 1,  /* AVPs that the dictionary knows */
+    DIA_SENDS_LISTED = 2, /* AVPs that a rule of their level names */
+    DIA_SENDS_FILLED = 3  /* these, and where [ AVP ] is all that a level allows, AVPs that the dictionary knows */
 };
 
 /* How what breaks is listed: options that are added up, or 0. */

@@ -74,7 +74,7 @@ def enum_of(body):
 def struct_of(name, body):
     lines = [(f"`{field}`", f"`{kind.strip()}{more}`", text) for kind, field, more, text in rows(body, r"(\w[\w ]*\*?) ?\b(\w+)((?:\[\w+\])?);")]
     if any("dia_private" in line[0] for line in lines):
-        return f"`{name}` is a handle, of which the library alone changes the fields.\n"
+        return f"`{name}` is an opaque handle.\n"
     return table((f"Field of `{name}`", "Type", "Meaning"), lines)
 
 

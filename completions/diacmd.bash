@@ -15,13 +15,13 @@ _diacmd() {
         *:refute:--levels) return ;;
         *:propose:--unknown) words='kept refused' ;;
         *:breaking:--unknown) words='kept refused' ;;
-        *:breaking:--sends) words='any known listed' ;;
+        *:breaking:--sends) words='any known filled listed' ;;
         *:answer:--unknown) words='kept refused' ;;
         *:answer:--levels) return ;;
         *:follow:--unknown) words='kept refused' ;;
         *:follow:--levels) return ;;
         *:diff:--unknown) words='kept refused' ;;
-        *:diff:--sends) words='any known listed' ;;
+        *:diff:--sends) words='any known filled listed' ;;
         *:lint:--unknown) words='kept refused' ;;
         *:examples:--unknown) words='kept refused' ;;
         *) case $command:$word in

@@ -71,7 +71,7 @@ complete -c diacmd -n '__fish_seen_subcommand_from breaking' -F
 complete -c diacmd -n '__fish_seen_subcommand_from breaking' -a @base -d 'The built-in base dictionary'
 complete -c diacmd -n '__fish_seen_subcommand_from breaking' -l quiet -d 'Prints no notes on standard error'
 complete -c diacmd -n '__fish_seen_subcommand_from breaking' -l unknown -x -a 'kept refused' -d 'Whether an AVP that isn\'t in the dictionary, with its M flag clear, is accepted or refused'
-complete -c diacmd -n '__fish_seen_subcommand_from breaking' -l sends -x -a 'any known listed' -d 'Which AVPs the side of A sends: any that A allows, those that A knows, or those that a rule names'
+complete -c diacmd -n '__fish_seen_subcommand_from breaking' -l sends -x -a 'any known filled listed' -d 'Which AVPs the side of A sends by a wildcard: any, those that A knows, these only where no other rule allows any, or none'
 complete -c diacmd -n '__fish_seen_subcommand_from breaking' -l messages -d 'Prints after each line a message that shows it, as hexadecimal text'
 complete -c diacmd -n '__fish_seen_subcommand_from breaking' -l once -d 'Prints one line a cause, with the number of commands that have it, and the first place'
 complete -c diacmd -n '__fish_seen_subcommand_from breaking' -l meaning -d 'Prints too which AVPs are read as another format'
@@ -115,7 +115,7 @@ complete -c diacmd -n '__fish_seen_subcommand_from diff' -F
 complete -c diacmd -n '__fish_seen_subcommand_from diff' -a @base -d 'The built-in base dictionary'
 complete -c diacmd -n '__fish_seen_subcommand_from diff' -l quiet -d 'Prints no notes on standard error'
 complete -c diacmd -n '__fish_seen_subcommand_from diff' -l unknown -x -a 'kept refused' -d 'Whether an AVP that isn\'t in the dictionary, with its M flag clear, is accepted or refused'
-complete -c diacmd -n '__fish_seen_subcommand_from diff' -l sends -x -a 'any known listed' -d 'Which AVPs the side of A sends: any that A allows, those that A knows, or those that a rule names'
+complete -c diacmd -n '__fish_seen_subcommand_from diff' -l sends -x -a 'any known filled listed' -d 'Which AVPs the side of A sends by a wildcard: any, those that A knows, these only where no other rule allows any, or none'
 complete -c diacmd -n '__fish_seen_subcommand_from diff' -l json -d 'Prints each answer as a JSON object, a line each'
 complete -c diacmd -n '__fish_seen_subcommand_from diff' -s h -l help -d 'Print help'
 complete -c diacmd -n '__fish_seen_subcommand_from lint' -F

@@ -11,8 +11,9 @@ FOLDER has, at any depth, the files of these packages of Debian 12, of which eac
 - doc-rfc-std-proposed, doc-rfc-old-std (non-free): rfcN.txt or rfcN.txt.gz, also apt-get download, dpkg-deb -x
 
 Compared are name, code, vendor, format, M rule and list of values of each AVP; with the .dia files and the RFCs also each
-rule of the commands and groups. The RFCs' lists of values aren't compared. The words of values.txt are compared with those of
-the three programs, but for case and for signs that are no letters or digits. differences.txt has the differences that are
+rule of the commands and groups; and in the groups of 3GPP that each member of wireshark's is there, and each of freediameter's
+with its counts. The RFCs' lists of values aren't compared. The words of values.txt are compared with those of the three programs,
+but for case and for signs that are no letters or digits. differences.txt has the differences that are
 explained, as they are printed, below their reasons. The status is 1 if a difference isn't there, or one of there doesn't
 occur.
 """
@@ -41,6 +42,7 @@ FREEDIAMETER = {
     'rfc4072.txt': 'dict_eap.c', 'rfc4740.txt': 'dict_sip.c', 'rfc5777.txt': 'dict_rfc5777.c',
 }
 TABLE = 'dict_dcca_3gpp.org'
+RULES = 'dict_dcca_3gpp.c'
 NUMBERS = 'libfdproto.h'
 WIRESHARK = 'dictionary.xml'
 # no dictionaries, or the same as another by intention
@@ -97,6 +99,8 @@ def files_below(folder):
     # libwireshark-data has a dictionary.xml of another protocol too
     found.update({WIRESHARK: os.path.join(path, WIRESHARK) for path, _, names in os.walk(folder)
                   if WIRESHARK in names and os.path.basename(path) == 'diameter'})
+    # freediameter has an older file of 3GPP among its contributions; the one of the table is beside it
+    found.update({RULES: os.path.join(path, RULES) for path, _, names in os.walk(folder) if RULES in names and TABLE in names})
     return found
 
 
@@ -158,15 +162,80 @@ def of_table(path):
         for line in file:
             cells = [cell.strip() for cell in line.strip().strip('|').split('|')]
             if len(cells) >= 8 and '#' not in cells[0] and cells[1].isdigit() and cells[3] in dictionary_text.FORMATS:
-                must = re.split('[,.]', cells[4])
+                must = re.split('[,./]', cells[4])
                 rule = 'must' if 'M' in must else 'mustnot' if 'M' in cells[7] else 'any'
                 found[int(cells[1]), vendor if 'V' in must else 0] = (cells[0], cells[3], rule, set())
     return found
 
 
+def members_of_wireshark(path):
+    """(code, vendor) of a group -> (code, vendor) of each member -> its name, and no counts."""
+    file = from_wireshark.File()
+    from_wireshark.read(path, file)
+    keys, members = {}, {}
+    for avp in file.avps:
+        keys.setdefault(avp.attributes['name'].strip(), []).append(from_wireshark.key_of(avp, file.vendors))
+    for avp in file.avps:
+        key = from_wireshark.key_of(avp, file.vendors)
+        for _, word in avp.members:
+            members.setdefault(key, {})[from_wireshark.found_as(keys.get(word, []), key[1])] = word, None
+    return members
+
+
+def members_of_freediameter(path, avps):
+    """(code, vendor) of a group -> (code, vendor) of each member -> its name, and its counts, without a greatest one -1."""
+    with open(path, encoding='utf-8', errors='replace') as file:
+        text = file.read()
+    keys = {(name, vendor): (code, vendor) for (code, vendor), (name, _, _, _) in avps.items()}
+    of_group = re.compile(r'vpa\.avp_vendor = (\d+);\s*vpa\.avp_name = "([^"]+)";\s*CHECK_dict_search\(DICT_AVP'
+                          r'.*?local_rules_definition rules\[\] =(.*?)PARSE_loc_rules', re.DOTALL)
+    rule = re.compile(r'\.avp_vendor = (\d+), *\.avp_name = "([^"]+)" *\}, *RULE_(\w+), *-?\d+, *(-?\d+)')
+    members = {}
+    for vendor, group, rules in of_group.findall(text):
+        for owner, name, place, most in rule.findall(rules):
+            if (name, int(owner)) in keys and (group, int(vendor)) in keys:
+                of_this = members.setdefault(keys[group, int(vendor)], {})
+                of_this[keys[name, int(owner)]] = name, (int(place == 'REQUIRED'), int(most))
+    return members
+
+
+def counts_of(rule):
+    """The least and the greatest count of a rule, without a greatest one -1."""
+    words = rule.split(' ')
+    front, opening = words[:-3], words[-3]
+    least, most = (0 if opening == '[' else 1), 1
+    if '*' in front:
+        at = front.index('*')
+        least = int(front[0]) if at else least
+        most = int(front[at + 1]) if front[at + 1:] else -1
+    return least, most
+
+
+def shown(counts):
+    return f'{counts[0]}..{"*" if counts[1] < 0 else counts[1]}'
+
+
+def differences_of_members(title, ours, names, theirs, had):
+    """What a program has in the groups of ours. The names are those of ours by code and vendor, of all files that it stands on."""
+    keys = {name: key for key, name in names.items()}
+    for (_, *key), (group, rules) in ours.definitions.items():
+        members = {keys.get(rule.split(' ')[-2]): counts_of(rule) for rule in rules}
+        for member, (word, counts) in theirs.get(tuple(key), {}).items():
+            name = names.get(member, word)
+            if member not in members:
+                yield f'{title} {group}: lacks {name}'
+                continue
+            had.append(name)
+            if counts and counts != members[member]:
+                yield f'{title} {group}: {name}: {shown(members[member])}, {shown(counts)}'
+
+
 def differences_of_avps(title, ours, theirs, has_lists, knows_any):
+    elsewhere = {name: key for key, (name, _, _, _) in theirs.items() if key not in ours.avps}
     for key, (name, kind, rule, numbers) in ours.avps.items():
         if key not in theirs:
+            if name in elsewhere:
+                yield f'{title} {name}: its code and vendor: {key[0]} {key[1]}, {elsewhere[name][0]} {elsewhere[name][1]}'
             continue
         other, other_kind, other_rule, other_numbers = theirs[key]
         if name != other:
@@ -229,6 +298,36 @@ def compare(name, files):
             had[source].update(set(ours.definitions) & set(text.definitions))
     counts = ', '.join(f'{source} {len(keys)}' for source, keys in had.items())
     print(f'{name}: {len(ours.avps)} AVPs, {len(ours.definitions)} commands and groups; of these {counts}')
+    if name.startswith('ts'):
+        found += compare_members(name, ours, files)
+    return found
+
+
+def compare_members(name, ours, files):
+    """Prints how many members of the groups of one of our files each program has, and gives the differences."""
+    with open(os.path.join(HERE, name), encoding='utf-8') as file:
+        below = re.search(r'^; Stands on: (.*)\.$', file.read(), re.MULTILINE)[1]
+    names = {}
+    for text in [name, *re.findall(r'[a-z0-9-]+\.txt', below)]:
+        with open(os.path.join(HERE, text), encoding='utf-8') as file:
+            names.update({key: avp for key, (avp, _, _, _) in Text(file.read()).avps.items() if key not in names})
+    programs = {'wireshark': members_of_wireshark(files[WIRESHARK]),
+                'freediameter': members_of_freediameter(files[RULES], of_table(files[TABLE]) | of_bases(files))}
+    found, counted = [], []
+    for program, theirs in programs.items():
+        had = []
+        found += differences_of_members(f'{name} {program}', ours, names, theirs, had)
+        counted.append(f'{program} {len(had)}')
+    members = sum(len(rules) for key, (_, rules) in ours.definitions.items() if key[0] == 'group')
+    print(f'    {members} rules in groups; of these {", ".join(counted)}')
+    return found
+
+
+def of_bases(files):
+    """The AVPs of RFCs that freeDiameter has."""
+    found = {}
+    for name in sorted(set(FREEDIAMETER.values())):
+        found.update(of_freediameter(files[name]))
     return found
 
 
@@ -255,7 +354,7 @@ def main():
     if len(sys.argv) != 2 or sys.argv[1] in ('-h', '--help'):
         print(__doc__)
         return len(sys.argv) != 2
-    wanted = {WIRESHARK, TABLE, NUMBERS, *FREEDIAMETER.values(), *(f'{dia}.dia' for of in DIA.values() for dia in of)}
+    wanted = {WIRESHARK, TABLE, RULES, NUMBERS, *FREEDIAMETER.values(), *(f'{dia}.dia' for of in DIA.values() for dia in of)}
     have = set(files_below(sys.argv[1]))
     texts = {name[:7] for name in os.listdir(HERE) if re.fullmatch(r'rfc\d{4}.*\.txt', name)}
     missing = sorted(wanted - have) + sorted(f'{text}.txt' for text in texts if not have & {f'{text}.txt', f'{text}.txt.gz'})

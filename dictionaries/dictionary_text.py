@@ -77,9 +77,10 @@ def definition(name, head, rules):
         yield f'  {qualifier}{" " if qualifier else ""}{opening} {avp} {CLOSING[opening]}'
 
 
-def open_group(name, code, vendor):
-    """A group that accepts any AVPs."""
-    return definition(name, f'AVP Header: {code}{f" {vendor}" if vendor else ""}', [('*', '[', WILDCARD)])
+def open_group(name, code, vendor, members=()):
+    """A group that accepts any AVPs, and names these members."""
+    head = f'AVP Header: {code}{f" {vendor}" if vendor else ""}'
+    return definition(name, head, [('*', '[', member) for member in (*members, WILDCARD)])
 
 
 def write_values(path, values):
@@ -103,9 +104,13 @@ def parser_of(script, what, has_values=True):
 
 
 def finish(lines, told, path, beside):
-    """Writes the text to standard output, and what is told, (path, line) and what, to standard error."""
+    """Writes the text to standard output, and what is told, (path, line) and what, to standard error. The status is 1 where the text
+    has no AVP and no command, and it isn't --beside that has them all."""
+    lines = list(lines)
     sys.stdout.write(''.join(line + '\n' for line in lines))
     for (where, line), what in sorted(told):
         print(f'{where}:{line}: {what}', file=sys.stderr)
     if beside.shared:
         print(f'{path}: left out, since the texts of --beside declare them: {beside.shared} of its AVPs', file=sys.stderr)
+    elif all(line.startswith(';') for line in lines):
+        sys.exit(f'{path}: no AVP and no command of it is in the text')

@@ -3,7 +3,7 @@
 
 What has no place in the text, and what the file doesn't say, is told on standard error, as FILE:LINE: WHAT.
 
-- The file says nothing of the members of a group: each group accepts any AVPs.
+- The file has the members of a group without counts: each group accepts any AVPs, and with --members it also names its members.
 - The file has commands by name alone: each is a comment.
 - The attribute mandatory is the M rule: must; mustnot; may and shouldnot are any. Without it the rule is any, told.
 - The format IPAddress is an Address or the bytes of one alone: OctetString, told.
@@ -33,6 +33,7 @@ class Avp:
         self.attributes = attributes
         self.type = None
         self.values = []
+        self.members = []       # (place, name)
 
 
 class File:
@@ -54,6 +55,8 @@ class File:
             self.avps[-1].type = attributes.get('type-name')
         elif tag == 'grouped' and self.avps:
             self.avps[-1].type = 'Grouped'
+        elif tag == 'gavp' and self.avps:
+            self.avps[-1].members.append((place, attributes.get('name', '').strip()))
         elif tag == 'enum' and self.avps:
             self.avps[-1].values.append((place, attributes.get('name'), attributes.get('code', '')))
         elif tag == 'command':
@@ -147,18 +150,50 @@ def convert(file, vendors, beside):
     return kept
 
 
+def key_of(avp, vendors):
+    """The code and the vendor of an AVP of the file."""
+    return int(avp.attributes['code']), vendors.get(avp.attributes.get('vendor-id', 'None'))
+
+
+def found_as(keys, vendor):
+    """Which of the AVPs of its name a member is: the one of the group's vendor, else of none, else the first."""
+    of_vendor = [key for wanted in (vendor, 0) for key in keys if key[1] == wanted]
+    return next(iter(of_vendor + keys), None)
+
+
+def members_of(file, kept, beside):
+    """The members of each group: the key of the group -> the names of its members. Reports those that aren't declared."""
+    avps, names, members = {}, {**beside.keys, **{(code, vendor): name for name, code, vendor, _, _, _ in kept}}, {}
+    with_codes = [avp for avp in file.avps if avp.attributes.get('code', '').isdigit()]
+    for avp in with_codes:
+        avps.setdefault(avp.attributes.get('name', '').strip(), []).append(key_of(avp, file.vendors))
+    groups = {(code, vendor) for _, code, vendor, kind, _, _ in kept if kind == 'Grouped'}
+    for avp in with_codes:
+        key = key_of(avp, file.vendors)
+        if key not in groups:
+            continue
+        of_group = members.setdefault(key, [])
+        for place, word in avp.members:
+            name = names.get(found_as(avps.get(word, []), key[1]))
+            if name is None:
+                file.told.append((place, f'{avp.attributes["name"]}: its member {word} left out: it isn\'t declared'))
+            elif name not in of_group:
+                of_group.append(name)
+    return members
+
+
 def words_of(file):
     """The words of all values: (AVP, number, word)."""
     return [(name_of(avp.attributes.get('name', '')), int(code), word) for avp in file.avps for _, word, code in avp.values
             if code.isdigit() and word and name_of(avp.attributes.get('name', ''))]
 
 
-def lines_of(avps, commands):
+def lines_of(avps, commands, members):
     """The dictionary text, in canonical form but for its comments."""
     lines = [declaration(*avp) for avp in avps]
     for name, code, vendor, kind, _, _ in avps:
         if kind == 'Grouped':
-            lines += open_group(name, code, vendor)
+            lines += open_group(name, code, vendor, members.get((code, vendor), ()))
     return lines + [f'; command {code} {name}: the file has no format of it' for _, name, code in commands]
 
 
@@ -166,6 +201,7 @@ def main():
     parser = parser_of(__doc__, 'dictionary.xml, or a file beside it')
     parser.add_argument('--base', metavar='XML', help='the dictionary.xml that has the vendors and formats of FILE, if FILE '
                                                       'is another')
+    parser.add_argument('--members', action='store_true', help='write * [ NAME ] in a group for each member that the file has')
     arguments = parser.parse_args()
     file = File()
     try:
@@ -178,13 +214,14 @@ def main():
         if file.elements == 0:
             raise ValueError('it has no elements')
         avps = convert(file, file.vendors, beside)
+        members = members_of(file, avps, beside) if arguments.members else {}
     except (OSError, expat.ExpatError, ValueError, KeyError) as error:
         sys.exit(f'{arguments.file}: no dictionary of wireshark: {error}')
     if arguments.values:
         write_values(arguments.values, words_of(file))
     told = file.told + [(place, f'the command {name}: a comment: the file has no format of it')
                         for place, name, _ in file.commands]
-    finish(lines_of(avps, file.commands), told, arguments.file, beside)
+    finish(lines_of(avps, file.commands, members), told, arguments.file, beside)
 
 
 if __name__ == '__main__':

@@ -5,7 +5,8 @@ is undefined.
     dictionaries/shipped.py [--check]
 
 The list is crates/dia_explain_inputs/src/dictionary/shipped.rt. With --check nothing is written, and the status is 1 where the
-list isn't that of the folder. A name that several files declare is that of the first one, by ORDER and then by the file's name."""
+list isn't that of the folder. A name that several files declare is that of the first one, by ORDER and then by the file's name; a line with
+the comment `as in FILE` is that of FILE."""
 
 import pathlib
 import re
@@ -54,14 +55,14 @@ fn line_of(avps: &'static str, name: &str) -> Option<&'static str> {
 
 def files():
     found = [file for file in sorted(FOLDER.glob("*.txt")) if file.name not in NO_DICTIONARIES]
-    return sorted(found, key=lambda file: ORDER.index(file.name) if file.name in ORDER else len(ORDER))
+    return sorted(found, key=lambda file: (ORDER.index(file.name) if file.name in ORDER else len(ORDER), file.stem))
 
 
 def words():
     """The words of the list."""
     known = set()
     for file in files():
-        named = re.compile(r"%avp (\S+) ")
+        named = re.compile(r"%avp (\S+) (?!.*; as in )")
         lines = [(named.match(line), number) for number, line in enumerate(file.read_text(encoding="utf-8").split("\n"), 1)]
         own = [(it.group(1), number) for it, number in lines if it and it.group(1) not in known]
         known.update(name for name, _ in own)

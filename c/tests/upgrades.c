@@ -77,7 +77,7 @@ static void meanings_are_told(void) {
 }
 
 static void policies_are_asked(void) {
-    static const char known[] = X T "{ X }", open[] = T "* [ AVP ]", closed[] = T;
+    static const char known[] = X T "{ X }", open[] = T "* [ AVP ]", closed[] = T, fills[] = X T "* [ AVP ]", has_none[] = X T;
     wanted w = all;
     EXPECT(writes(&w, known, open, "T: unknown X: M set sent, not known\n", 0));
     w.unknown = DIA_UNKNOWN_REFUSED;
@@ -86,6 +86,10 @@ static void policies_are_asked(void) {
     w = all;
     w.sends = DIA_SENDS_ANY;
     EXPECT(writes(&w, open, closed, "T: not-allowed AVP: 0..* sent\n", 0));
+    EXPECT(writes(&all, fills, has_none, "nothing breaks\n", 1));
+    w.sends = DIA_SENDS_FILLED;
+    EXPECT(writes(&w, fills, has_none, "T: not-allowed AVP: 0..* sent\n", 0));
+    EXPECT(writes(&w, open, closed, "nothing breaks\n", 1));
 }
 
 /* Whether nothing is listed, for this. */
@@ -135,7 +139,7 @@ static void arguments_are_asked(void) {
     dia_problem problem = {99, 99, 99};
     uint32_t safe = 99;
     wanted w = all;
-    w.sends = 3;
+    w.sends = 4;
     EXPECT(lists(&w, &a, &b, &text, &safe, &problem) == DIA_BAD_ARGUMENT);
     w = all;
     w.unknown = 2;

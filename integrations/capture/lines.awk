@@ -37,4 +37,6 @@ END {
     for (end in bytes) if (bytes[end] != "") print end, bytes[end]
     for (place in segment) if (segment[place] != "") missing = 1
     if (missing) print "segments are missing: use messages.awk, and follow --middle" > "/dev/stderr"
+    if (!NR) print "there are no segments: is the stream that of the connection?" > "/dev/stderr"
+    else if (!(">" in next_place)) print "no segment goes to port " port ": is it that of the end that accepted the connection?" > "/dev/stderr"
 }

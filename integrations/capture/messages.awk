@@ -7,5 +7,10 @@
 
 $2 == "frame.time_relative" { time = $4 }
 $2 == "tcp.dstport" || $2 == "sctp.dstport" { destination = $4 }
-is_message { print (destination == port ? ">" : "<"), time, $2 }
+is_message { print (destination == port ? ">" : "<"), time, $2; messages++; if (destination == port) accepted = 1 }
 { is_message = $2 == "diameter_raw" }
+
+END {
+    if (!messages) print "there are no messages: docs/CAPTURES.md says what to look at" > "/dev/stderr"
+    else if (!accepted) print "no message goes to port " port ": is it that of the end that accepted the connection?" > "/dev/stderr"
+}

@@ -13,11 +13,13 @@ import (
 // Sends is which messages the first side sends.
 type Sends uint32
 
-// SendsAny sends also AVPs that its dictionary doesn't know, SendsKnown those that it knows, and SendsListed those that a rule lists.
+// SendsAny sends also AVPs that its dictionary doesn't know, SendsKnown those that it knows, SendsListed those that a rule lists, and
+// SendsFilled these, and those that it knows where a wildcard is all that a level allows.
 const (
 	SendsAny    Sends = C.DIA_SENDS_ANY
 	SendsKnown  Sends = C.DIA_SENDS_KNOWN
 	SendsListed Sends = C.DIA_SENDS_LISTED
+	SendsFilled Sends = C.DIA_SENDS_FILLED
 )
 
 // Options are added up.
@@ -40,34 +42,68 @@ type Question struct {
 	Accepted string   // the text of a list of accepted lines (docs/FORMATS.md)
 }
 
+// both shares two dictionaries, so that a long call leaves them to others. One dictionary takes two handles.
+func both(a, b *Dictionary) (first, second *Dictionary, err error) {
+	if first, err = a.Share(); err != nil {
+		return nil, nil, err
+	}
+	if second, err = b.Share(); err != nil {
+		first.Close()
+		return nil, nil, err
+	}
+	return first, second, nil
+}
+
 // Breaking lists all that can break where the side of a sends and the side of b reads: the text of `diacmd breaking`, and whether
-// nothing breaks but what is accepted.
+// nothing breaks but what is accepted. Other goroutines may use both dictionaries meanwhile. If an input is refused, the error is an
+// *InputError.
 func Breaking(a, b *Dictionary, q Question) (text string, safe bool, err error) {
-	// one dictionary takes two handles
-	if b, err = b.Share(); err != nil {
+	first, second, err := both(a, b)
+	if err != nil {
 		return "", false, err
 	}
-	defer b.Close()
+	defer first.Close()
+	defer second.Close()
 	commands, commandsCount := bytesOf([]byte(strings.Join(q.Commands, "\n")))
 	accepted, acceptedCount := bytesOf([]byte(q.Accepted))
 	var answer C.dia_text
 	var isSafe C.uint32_t
 	var problem C.dia_problem
-	a.lock.Lock()
-	defer a.lock.Unlock()
-	if a.handle == nil {
-		return "", false, ErrClosed
-	}
-	status := C.dia_breaking(a.handle, b.handle, C.uint32_t(q.Sends), C.uint32_t(q.Unknown), C.uint32_t(q.Options), commands,
+	status := C.dia_breaking(first.handle, second.handle, C.uint32_t(q.Sends), C.uint32_t(q.Unknown), C.uint32_t(q.Options), commands,
 		commandsCount, accepted, acceptedCount, &answer, &isSafe, &problem)
 	if status == C.DIA_REFUSED {
-		return "", false, &DictionaryError{Kind: uint32(problem.kind), Line: uint64(problem.line)}
+		return "", false, inputError(&problem)
 	}
 	if status != C.DIA_OK {
 		return "", false, problemOf(status)
 	}
 	defer C.dia_text_close(&answer)
 	return textOf(&answer), isSafe == 1, nil
+}
+
+// Compare compares two dictionaries by the text of a table of pairs (docs/FORMATS.md): whether each message that is valid under a, of a
+// command that the table lists, is valid under b; and the line of `diacmd compare`. If the table is refused, the error is an
+// *InputError.
+func Compare(a, b *Dictionary, unknown Unknown, table string) (holds bool, line string, err error) {
+	first, second, err := both(a, b)
+	if err != nil {
+		return false, "", err
+	}
+	defer first.Close()
+	defer second.Close()
+	start, count := bytesOf([]byte(table))
+	var answer C.dia_text
+	var isYes C.uint32_t
+	var problem C.dia_problem
+	switch status := C.dia_compare(first.handle, second.handle, C.uint32_t(unknown), start, count, &answer, &isYes, &problem); status {
+	case C.DIA_OK:
+		defer C.dia_text_close(&answer)
+		return isYes == 1, strings.TrimSuffix(textOf(&answer), "\n"), nil
+	case C.DIA_REFUSED:
+		return false, "", inputError(&problem)
+	default:
+		return false, "", problemOf(status)
+	}
 }
 
 func textOf(text *C.dia_text) string {

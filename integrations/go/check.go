@@ -119,6 +119,22 @@ func (d *Dictionary) CheckMany(all []byte, ends []uint, unknown Unknown) ([]Verd
 	return verdicts, nil
 }
 
+// CheckJSON is the object that `diacmd check --json` writes of a message (docs/JSON.md).
+func (d *Dictionary) CheckJSON(message []byte, unknown Unknown) ([]byte, error) {
+	first, count := bytesOf(message)
+	var line C.dia_text
+	d.lock.Lock()
+	defer d.lock.Unlock()
+	if d.handle == nil {
+		return nil, ErrClosed
+	}
+	if status := C.dia_check_json(d.handle, C.uint32_t(unknown), C.DIA_ANY_LEVELS, first, count, &line); status != C.DIA_OK {
+		return nil, problemOf(status)
+	}
+	defer C.dia_text_close(&line)
+	return []byte(textOf(&line)), nil
+}
+
 // Describe is the line that `diacmd check` writes of a verdict of this dictionary.
 func (d *Dictionary) Describe(v Verdict) (string, error) {
 	verdict := C.dia_verdict{C.uint32_t(v.Outcome), C.uint32_t(v.Command), C.uint32_t(v.Code), C.uint32_t(v.Place), C.uint32_t(v.Reason),

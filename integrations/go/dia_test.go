@@ -5,8 +5,10 @@ import (
 	"encoding/binary"
 	"encoding/hex"
 	"errors"
+	"net"
 	"sync"
 	"testing"
+	"time"
 )
 
 // usage declares an AVP and the head of a request of it, whose rules follow.
@@ -93,6 +95,13 @@ func TestVerdict(t *testing.T) {
 	}
 }
 
+func TestJSON(t *testing.T) {
+	object, err := made(t, usage+"{ Usage }").CheckJSON(twice, Kept)
+	if err != nil || !bytes.Contains(object, []byte(`"reason":"too-many"`)) {
+		t.Error(string(object), err)
+	}
+}
+
 func TestUnknown(t *testing.T) {
 	d := made(t, "<Any> ::= < Diameter Header: 302, REQ > *[ AVP ]")
 	for unknown, wanted := range map[Unknown]Outcome{Kept: Valid, Refused: Fault} {
@@ -154,9 +163,181 @@ func TestAnswer(t *testing.T) {
 func TestNoDictionary(t *testing.T) {
 	_, err := New([]byte("%avp A 1 Time any\n%avp A 2 Time any\n"))
 	var fault *DictionaryError
-	// the second A is on line 2, in column 6; 11 is DIA_DUPLICATE_NAME
-	if !errors.As(err, &fault) || *fault != (DictionaryError{Kind: 11, Line: 2, Column: 6, Name: "A"}) {
+	// the second A is on line 2, in column 6
+	wanted := TextFault{DuplicateName, 2, 6, "A", ""}
+	if !errors.As(err, &fault) || len(fault.Faults) != 1 || fault.Faults[0] != wanted || err.Error() != "dia: no dictionary: 2:6: duplicate-name A" {
 		t.Error(err)
+	}
+	faults, err := Faults([]byte("%avp A 1 Time any\n%avp A 2 Time any\n<R> ::= < Diameter Header: 1, REQ > { X }"))
+	if err != nil || len(faults) != 2 || faults[1].String() != "3:39: undefined-name R X" {
+		t.Error(faults, err)
+	}
+	if faults, err := Faults([]byte(usage)); err != nil || len(faults) != 0 {
+		t.Error(faults, err)
+	}
+	if Kind(99).String() != "kind 99" {
+		t.Error(Kind(99))
+	}
+}
+
+func TestRender(t *testing.T) {
+	text, err := Render([]byte("%avp   A 1\n Time any ; a comment"))
+	if err != nil || text != "%avp A 1 Time any\n" {
+		t.Error(text, err)
+	}
+	var fault *DictionaryError
+	if _, err := Render([]byte("xx")); !errors.As(err, &fault) || fault.Faults[0].Kind != Syntax || fault.Faults[0].Line != 1 {
+		t.Error(err)
+	}
+}
+
+func TestCompare(t *testing.T) {
+	ours, theirs := made(t, usage+"1*3 { Usage }"), made(t, usage+"{ Usage }")
+	const table = "command Report = Report\navp Usage = Usage\n"
+	if holds, line, err := Compare(ours, theirs, Kept, table); err != nil || holds || line != "no command Report = Report N2" {
+		t.Error(holds, line, err)
+	}
+	if holds, line, err := Compare(theirs, ours, Kept, table); err != nil || !holds || line != "yes" {
+		t.Error(holds, line, err)
+	}
+	var refused *InputError
+	if _, _, err := Compare(ours, theirs, Kept, "\nx"); !errors.As(err, &refused) || *refused != (InputError{Syntax, 2}) {
+		t.Error(err)
+	}
+}
+
+func TestStream(t *testing.T) {
+	d := base(t)
+	s, err := d.Stream(Kept)
+	if err != nil {
+		t.Fatal(err)
+	}
+	d.Close()
+	all := append(append([]byte{}, watchdog...), bare...)
+	for _, wanted := range []Verdict{{Outcome: Valid}, {Outcome: Fault, Code: 5005, Place: 20, Reason: 9, Subject: AVP, AVPCode: 264}} {
+		for done := false; !done; {
+			// a byte at a time
+			rest, whole, err := s.Feed(all[:1])
+			if err != nil || len(rest) != 0 {
+				t.Fatal(rest, err)
+			}
+			all, done = all[1:], whole
+		}
+		found, err := s.Again()
+		found.Command = 0
+		if err != nil || found != wanted {
+			t.Error(found, err)
+		}
+	}
+	if v, err := s.Finish(); err != nil || v.Outcome != Truncated {
+		t.Error(v, err)
+	}
+	if _, _, err := s.Feed(nil); !errors.Is(err, ErrClosed) {
+		t.Error(err)
+	}
+}
+
+func TestSplit(t *testing.T) {
+	all := bytes.Join([][]byte{watchdog, bare, watchdog[:30]}, nil)
+	found := Split(all)
+	if len(found) != 3 || !bytes.Equal(found[0], watchdog) || !bytes.Equal(found[1], bare) || len(found[2]) != 30 {
+		t.Error(found)
+	}
+	if _, err := MessageLength(watchdog[1:]); err != ErrMessage {
+		t.Error(err)
+	}
+}
+
+func ends(t *testing.T, ours, theirs Config) (*Peer, *Peer) {
+	t.Helper()
+	first, err := NewPeer(Initiator, ours)
+	if err != nil {
+		t.Fatal(err)
+	}
+	second, err := NewPeer(Responder, theirs)
+	if err != nil {
+		t.Fatal(err)
+	}
+	t.Cleanup(first.Close)
+	t.Cleanup(second.Close)
+	return first, second
+}
+
+// sent is the only output, which is a message.
+func sent(t *testing.T, outputs []Output, err error) []byte {
+	t.Helper()
+	if err != nil || len(outputs) != 1 || outputs[0].Message == nil {
+		t.Fatal(outputs, err)
+	}
+	return outputs[0].Message
+}
+
+func TestPeers(t *testing.T) {
+	apps := []Application{{ID: 4}, {ID: 3, Accounting: true}}
+	first, second := ends(t, Config{Host: "a.b", Realm: "b", Product: "p", Applications: apps[:1], Values: true},
+		Config{Host: "c.d", Realm: "d", Product: "q", Applications: apps, Values: true})
+	if outputs, err := second.Start(); err != nil || len(outputs) != 0 {
+		t.Fatal(outputs, err)
+	}
+	cer := func() []byte { outputs, err := first.Start(); return sent(t, outputs, err) }()
+	cea := func() []byte { outputs, err := second.Receive(cer); return sent(t, outputs, err) }()
+	if outputs, err := first.Receive(cea); err != nil || len(outputs) != 0 {
+		t.Fatal(outputs, err)
+	}
+	for _, end := range []*Peer{first, second} {
+		state, err := end.State()
+		common, _ := end.Common()
+		serves, _ := end.Serves(4)
+		other, _ := end.Serves(3)
+		if err != nil || state != Open || len(common) != 1 || common[0] != apps[0] || !serves || other || end.Timer() != TimerQuiet {
+			t.Error(state, common, serves, other, end.Timer(), err)
+		}
+	}
+	host, _ := first.Host()
+	realm, _ := first.Realm()
+	product, _ := first.Product()
+	result, err := first.Result()
+	if err != nil || host != "c.d" || realm != "d" || product != "q" || result != 2001 {
+		t.Error(host, realm, product, result, err)
+	}
+	dpr := func() []byte { outputs, err := first.Stop(Busy); return sent(t, outputs, err) }()
+	outputs, err := second.Receive(dpr)
+	if err != nil || len(outputs) != 2 || outputs[1].Message != nil || outputs[1].Why != WhyPeerStopped {
+		t.Fatal(outputs, err)
+	}
+	if cause, came, err := second.Cause(); err != nil || !came || cause != Busy {
+		t.Error(cause, came, err)
+	}
+	if outputs, err := first.Receive(outputs[0].Message); err != nil || len(outputs) != 1 || outputs[0].Why != WhyStopped {
+		t.Error(outputs, err)
+	}
+	if state, err := first.State(); err != nil || state != Closed {
+		t.Error(state, err)
+	}
+}
+
+func TestRefusedConfigs(t *testing.T) {
+	apps := []Application{{ID: 4}}
+	for field, config := range map[string]Config{
+		"Host": {Realm: "b", Applications: apps}, "Realm": {Host: "a", Applications: apps}, "Applications": {Host: "a", Realm: "b"},
+		"Addresses": {Host: "a", Realm: "b", Applications: apps, Addresses: []net.IP{{1, 2}}},
+	} {
+		var refused *ConfigError
+		if _, err := NewPeer(Initiator, config); !errors.As(err, &refused) || refused.Field != field {
+			t.Error(field, err)
+		}
+	}
+}
+
+func TestQuietTime(t *testing.T) {
+	for _, tw := range []time.Duration{0, 6 * time.Second, 30 * time.Second} {
+		least := tw
+		if least < 6*time.Second {
+			least = 6 * time.Second
+		}
+		if quiet, err := QuietTime(tw); err != nil || quiet < least-2*time.Second || quiet > least+2*time.Second {
+			t.Error(tw, quiet, err)
+		}
 	}
 }
 
@@ -178,8 +359,13 @@ func TestBreaking(t *testing.T) {
 			t.Error(text, safe, err)
 		}
 	}
-	if _, _, err := Breaking(ours, theirs, Question{Sends: SendsListed, Commands: []string{"Other"}}); err == nil {
-		t.Error("a command that there isn't")
+	var refused *InputError
+	_, _, err := Breaking(ours, theirs, Question{Sends: SendsListed, Commands: []string{"Report", "Other"}})
+	if !errors.As(err, &refused) || *refused != (InputError{NoCommand, 2}) || err.Error() != "dia: line 2: no command" {
+		t.Error(err)
+	}
+	if _, _, err := Breaking(ours, theirs, Question{Sends: SendsListed, Accepted: "x\n"}); !errors.As(err, &refused) || refused.Kind != Syntax {
+		t.Error(err)
 	}
 }
 
@@ -271,6 +457,9 @@ func TestAVPsAt(t *testing.T) {
 	found, err := d.AVPsAt(message, 40)
 	if err != nil || len(found) != 2 || found[0].Place != 20 || found[0].Name != "B" || found[1].Place != 36 || found[1].Depth != 1 {
 		t.Error(found, err)
+	}
+	if found, end, err := d.AVPs(message); err != nil || len(found) != 3 || end != 44 || found[1].Depth != 1 || found[2].Place != 36 {
+		t.Error(found, end, err)
 	}
 	if found, err := d.AVPsAt(message, 19); err != nil || len(found) != 0 {
 		t.Error(found, err)

@@ -24,19 +24,8 @@ import (
 // ErrMemory says that memory was refused. Nothing has changed, and the call may be tried again.
 var ErrMemory = errors.New("dia: no memory")
 
-// ErrClosed says that the dictionary is closed.
-var ErrClosed = errors.New("dia: the dictionary is closed")
-
-// A DictionaryError is the first fault of a text that is no dictionary.
-type DictionaryError struct {
-	Kind         uint32 // a kind of docs/FAULTS.md by its number in dia.h
-	Line, Column uint64 // from 1; 0 where the text has the fault as a whole
-	Name, Slot   string // the definition or the AVP that has the fault, and the AVP of its rule, or ""
-}
-
-func (e *DictionaryError) Error() string {
-	return fmt.Sprintf("dia: no dictionary: %d:%d: kind %d %s %s", e.Line, e.Column, e.Kind, e.Name, e.Slot)
-}
+// ErrClosed says that the dictionary, stream or peer is closed.
+var ErrClosed = errors.New("dia: it is closed")
 
 // A Dictionary holds the definitions of AVPs and commands.
 type Dictionary struct {
@@ -80,7 +69,7 @@ func problemOf(status C.dia_status) error {
 	return fmt.Errorf("dia: status %d", status)
 }
 
-// New reads the text of a dictionary. If it is none, the error is a *DictionaryError.
+// New reads the text of a dictionary. If it is none, the error is a *DictionaryError with all faults of the text.
 func New(text []byte) (*Dictionary, error) {
 	if C.dia_abi_version() != C.DIA_ABI_VERSION {
 		return nil, errors.New("dia: libdia has another version than dia.h")
@@ -93,30 +82,9 @@ func New(text []byte) (*Dictionary, error) {
 	case C.DIA_OK:
 		return made, nil
 	case C.DIA_REFUSED:
-		return nil, firstFault(text)
+		return nil, errorOf(text)
 	}
 	return nil, problemOf(status)
-}
-
-// firstFault finds the first fault of a text that is no dictionary.
-func firstFault(text []byte) error {
-	var faults C.dia_faults
-	var found C.dia_fault
-	var count, line, column C.size_t
-	first, length := bytesOf(text)
-	if status := C.dia_faults_open(first, length, &faults, &count); status != C.DIA_OK {
-		return problemOf(status)
-	}
-	defer C.dia_faults_close(&faults)
-	if status := C.dia_faults_get(&faults, 0, &found); status != C.DIA_OK {
-		return problemOf(status)
-	}
-	if found.has_place == 1 {
-		C.dia_line_column(first, length, found.at, &line, &column)
-	}
-	name := C.GoBytes(unsafe.Pointer(&found.name[0]), C.int(found.name_count))
-	slot := C.GoBytes(unsafe.Pointer(&found.slot[0]), C.int(found.slot_count))
-	return &DictionaryError{uint32(found.kind), uint64(line), uint64(column), string(name), string(slot)}
 }
 
 // Base is the dictionary of RFC 6733.

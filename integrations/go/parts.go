@@ -151,6 +151,38 @@ func (d *Dictionary) AVPsAt(message []byte, offset uint) ([]MessageAVP, error) {
 	}
 }
 
+// AVPs are the AVPs of a message in the order of their bytes, each group that the dictionary has followed by its members. An AVP Length
+// that no AVP can have ends them, at the offset end; else end is the length of the message. The error is ErrMessage where the bytes are no
+// message.
+func (d *Dictionary) AVPs(message []byte) (avps []MessageAVP, end uint, err error) {
+	first, length := bytesOf(message)
+	var verdict C.dia_verdict
+	d.lock.Lock()
+	defer d.lock.Unlock()
+	if d.handle == nil {
+		return nil, 0, ErrClosed
+	}
+	raws := make([]C.dia_avp, 32)
+	for {
+		var count, ended C.size_t
+		status := C.dia_avps(d.handle, first, length, &raws[0], C.size_t(len(raws)), &count, &ended, &verdict)
+		switch status {
+		case C.DIA_OK:
+			found := make([]MessageAVP, count)
+			for i := range found {
+				found[i] = avpOf(&raws[i])
+			}
+			return found, uint(ended), nil
+		case C.DIA_REFUSED:
+			return nil, 0, ErrMessage
+		case C.DIA_NO_ROOM:
+			raws = make([]C.dia_avp, count)
+		default:
+			return nil, 0, problemOf(status)
+		}
+	}
+}
+
 func avpOf(raw *C.dia_avp) MessageAVP {
 	name := C.GoBytes(unsafe.Pointer(&raw.name[0]), C.int(raw.name_count))
 	return MessageAVP{uint(raw.place), uint(raw.depth), uint(raw.length), uint(raw.data_place), uint(raw.data_length), uint32(raw.code),

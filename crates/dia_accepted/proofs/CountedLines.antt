@@ -1,5 +1,5 @@
 -- What counts of a line of an answer is what counts of an entry with the same parts.
-use Rattle.std.proofs.Common.{◌≡◌, inl, inr, ℕ, suc, ◌+◌, Bool, true, false, cond, List, [], ◌∷◌, ◌++◌, length}
+use Rattle.std.proofs.Common.{◌≡◌, inl, inr, ℕ, suc, ◌+◌, ◌<◌, Bool, true, false, cond, List, [], ◌∷◌, ◌++◌, length}
 use Rattle.std.proofs.Common.{take, drop, Option, Some, None, refl, sym, ap, subst, ◌∙◌, append_assoc, arith}
 use Rattle.std.specs.Prelude.{◌==◌, ◌||◌, codes, not}
 use Rattle.std.specs.List.{prefix_len}
@@ -14,8 +14,8 @@ use Rattle.dia_accepted.specs.declared.line.Verdict.{Verdict}
 use Rattle.dia_accepted.specs.declared.line.Verdict.TheVariants.{Breaks, Undecided}
 use Rattle.dia_accepted.specs.Accepted.{accepts, entry}
 use Rattle.dia_accepted.specs.Lines.{IsAnswer, PlainLine, cause_words, counted_of, everywhere, is_about_level, is_level_reason}
-use Rattle.dia_accepted.specs.Lines.{path, path_words, reason_word, run, verdict, verdict_words, word}
-use Rattle.dia_accepted.specs.Words.{anywhere, begins, cause_of, counted, is_name_byte}
+use Rattle.dia_accepted.specs.Lines.{path, path_words, reason_word, verdict, verdict_words, word}
+use Rattle.dia_accepted.specs.Words.{anywhere, begins, cause_of, counted, is_name_byte, subject_len}
 use Rattle.dia_accepted.specs.Words.{is_of_level, is_of_path, is_path_byte, path_of, scope}
 use Rattle.dia_accepted.proofs.LineParts.{begins_parts}
 use Rattle.dia_accepted.proofs.Sets.{or_true}
@@ -65,9 +65,6 @@ module _ (front rest : List ℕ) (whole : prefix_len is_of_path front ≡ length
   cause_is = drop_at front (58 ∷ rest) (prefix_len is_of_path (front ++ 58 ∷ rest)) (sym to_colon)
 
 -- ---- the cause
-
-no_run : (p : ℕ → Bool) (name text rest : List ℕ) → text ≡ [] → run p name text rest → ⊥
-no_run p name text rest none is = let e = ap (prefix_len p) none in omega (arith, e, is.0)
 
 word_then : (letters text next : List ℕ) → word letters text next → (next ≡ [] → ⊥) → text ≡ letters ++ 32 ∷ next
 word_then letters text next (inl e) some = e
@@ -168,7 +165,7 @@ module _ (words : List ℕ) (l : PlainLine) (is : IsAnswer words l) where
   words_are = front.0 ∙ ap (λ (xs : List ℕ). path_words l.path ++ xs) is.2.1
 
   some : next ≡ [] → ⊥
-  some none = no_run is_name_byte l.subject next is.2.2.1.2.0 none is.2.2.1.2.1
+  some none = let z : 0 < prefix_len is_name_byte [] = subst (λ (t : List ℕ). 0 < prefix_len is_name_byte t) none is.2.2.1.2.1.0 in omega (arith, z)
 
   text_is : text ≡ verdict_words l.verdict ++ 32 ∷ next
   text_is = verdict_front l.verdict text next is.2.2.1.1 some
@@ -176,7 +173,7 @@ module _ (words : List ℕ) (l : PlainLine) (is : IsAnswer words l) where
   next_is : next ≡ l.subject ++ (codes ": " ++ l.detail)
   next_is =
       let subject = is.2.2.1.2.1 in
-      let n = prefix_len is_name_byte next in
+      let n = subject_len next in
       sym (take-append-drop n next) ∙ (λ i. sym subject.1 i ++ sym subject.2 i)
       ∙ ap (λ (xs : List ℕ). l.subject ++ xs) (is.2.2.1.2.2 ∙ ap (λ (xs : List ℕ). codes ": " ++ xs) (is.2.2.2.0 ∙ append-nil l.detail))
 

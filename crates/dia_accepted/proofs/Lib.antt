@@ -4,6 +4,7 @@ pub mod CauseLaws
 pub mod Tallies
 mod Forms
 mod LineParts
+mod SubjectBytes
 mod OnceEnds
 mod LineLaws
 mod CountedLines

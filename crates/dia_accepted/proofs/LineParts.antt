@@ -16,8 +16,8 @@ use Rattle.dia_accepted.specs.declared.line.Verdict.{Verdict}
 use Rattle.dia_accepted.specs.declared.line.Verdict.TheVariants.{Breaks, Undecided}
 use Rattle.dia_accepted.specs.LineReader.{after_word, all_reasons, colon_read, first_word, is_named, is_of_word, path_read}
 use Rattle.dia_accepted.specs.LineReader.{reason_named, subject_read, undecided_by, undecided_read, verdict_by, verdict_read}
-use Rattle.dia_accepted.specs.Lines.{Form, colon, literal, one, path, reason_word, run, undecided, verdict, word}
-use Rattle.dia_accepted.specs.Words.{begins, is_name_byte, is_path_byte}
+use Rattle.dia_accepted.specs.Lines.{Form, colon, literal, one, path, reason_word, run, subject, undecided, verdict, word}
+use Rattle.dia_accepted.specs.Words.{begins, is_name_byte, is_path_byte, subject_len}
 use Rattle.dia_accepted.proofs.Forms.{Both, Ends, Reads, Stops, ends_length, part_reads, part_stops, reads_then, whole}
 
 -- what is read, or that the form stops at once
@@ -57,7 +57,7 @@ colon_is text = by (begins text (codes ": ")) refl
 -- ---- a subject
 
 abbrev pub Subject : List ℕ → Form
-Subject name = one (run is_name_byte name)
+Subject letters = one (subject letters)
 
 pub subject_is : (text : List ℕ) → Found Subject text (subject_read text)
 subject_is text = by (nat_lt 0 n) refl
@@ -65,9 +65,12 @@ subject_is text = by (nat_lt 0 n) refl
     n : ℕ
     n = prefix_len is_name_byte text
 
-    by : (b : Bool) → nat_lt 0 n ≡ b → Found Subject text (cond b (Some (take n text, drop n text)) None)
-    by true e = part_reads (run is_name_byte) text (take n text) (drop n text) (ltb-true 0 n e, refl, refl) (λ w r d. (d.1, d.2)) (dropped n text)
-    by false e = part_stops (run is_name_byte) text [] (λ w r d. let l = ltb-false 0 n e in omega (arith, l, d.0))
+    m : ℕ
+    m = subject_len text
+
+    by : (b : Bool) → nat_lt 0 n ≡ b → Found Subject text (cond b (Some (take m text, drop m text)) None)
+    by true e = part_reads subject text (take m text) (drop m text) (ltb-true 0 n e, refl, refl) (λ w r d. (d.1, d.2)) (dropped m text)
+    by false e = part_stops subject text [] (λ w r d. let l = ltb-false 0 n e in omega (arith, l, d.0))
 
 -- ---- a path
 

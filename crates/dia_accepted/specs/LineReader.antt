@@ -10,7 +10,7 @@ use Rattle.dia_accepted.specs.declared.line.Reason.TheVariants as reasons
 use Rattle.dia_accepted.specs.declared.line.Verdict.{Verdict}
 use Rattle.dia_accepted.specs.declared.line.Verdict.TheVariants.{Breaks, Undecided}
 use Rattle.dia_accepted.specs.Lines.{PlainLine, reason_word}
-use Rattle.dia_accepted.specs.Words.{begins, is_name_byte, is_path_byte}
+use Rattle.dia_accepted.specs.Words.{begins, is_name_byte, is_path_byte, subject_len}
 
 -- the part that was found, or the text at which there is none
 abbrev pub or_at : {X Y : Type 0} → List ℕ → Option X → (X → Result Y (List ℕ)) → Result Y (List ℕ)
@@ -73,7 +73,7 @@ verdict_read text = verdict_by text (reason_named (first_word text))
 abbrev pub subject_read : List ℕ → Option (List ℕ × List ℕ)
 subject_read text =
     if nat_lt 0 (prefix_len is_name_byte text)
-    then Some (take (prefix_len is_name_byte text) text, drop (prefix_len is_name_byte text) text)
+    then Some (take (subject_len text) text, drop (subject_len text) text)
     else None
 
 -- ---- the end of a line of `--once`

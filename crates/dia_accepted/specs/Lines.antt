@@ -10,7 +10,7 @@ use Rattle.dia_accepted.specs.declared.line.Scope.{Scope}
 use Rattle.dia_accepted.specs.declared.line.Scope.TheVariants as scopes
 use Rattle.dia_accepted.specs.declared.line.Verdict.{Verdict}
 use Rattle.dia_accepted.specs.declared.line.Verdict.TheVariants.{Breaks, Undecided}
-use Rattle.dia_accepted.specs.Words.{is_name_byte, is_path_byte, scope}
+use Rattle.dia_accepted.specs.Words.{is_name_byte, is_path_byte, scope, subject_len}
 
 -- ---- a line
 
@@ -133,9 +133,13 @@ abbrev pub verdict : Verdict → Form
 verdict (Breaks reason) = one (word (reason_word reason))
 verdict (Undecided reason) = one (word (codes "undecided")) then one (undecided reason)
 
+-- a name, `-`, an Application-ID, or `CODE:VENDOR`
+abbrev pub subject : List ℕ → Part
+subject letters text rest = (0 < prefix_len is_name_byte text) × (letters ≡ take (subject_len text) text) × (rest ≡ drop (subject_len text) text)
+
 -- `REASON SUBJECT: `
 abbrev pub front : Verdict → List ℕ → Form
-front v subject = verdict v then one (run is_name_byte subject) then colon
+front v letters = verdict v then one (subject letters) then colon
 
 -- any text but the empty one
 abbrev pub detail : List ℕ → Part

@@ -1,6 +1,6 @@
 -- The words of a line, `PATH: REASON SUBJECT: DETAIL`, and what of them has to be the same where a line is accepted.
-use Rattle.std.specs.Prelude.{ℕ, nat_eq, nat_lt, ◌==◌, ◌||◌, ◌-◌, Bool, if◌then◌else◌, true, false, not, List, [], ◌∷◌, ◌++◌, length, take, drop, codes, reverse}
-use Rattle.std.specs.Char.{is_ascii_alphanumeric}
+use Rattle.std.specs.Prelude.{ℕ, nat_eq, nat_lt, ◌==◌, ◌||◌, ◌&&◌, ◌+◌, ◌-◌, Bool, if◌then◌else◌, true, false, not, List, [], ◌∷◌, ◌++◌, length, take, drop, codes, reverse}
+use Rattle.std.specs.Char.{is_ascii_alphanumeric, is_ascii_digit}
 use Rattle.std.specs.List.{after_first, prefix_len, starts_with}
 use Rattle.std.specs.Str.{trim_end}
 
@@ -103,6 +103,26 @@ is_name_byte c = is_ascii_alphanumeric c || c == 45
 -- or what joins names, and the signs of `[application N]`
 abbrev pub is_path_byte : ℕ → Bool
 is_path_byte c = is_name_byte c || (c == 47 || (c == 91 || (c == 93 || c == 32)))
+
+-- ---- the bytes of a subject
+
+-- how many digits begin the text
+abbrev pub digits_in : List ℕ → ℕ
+digits_in text = prefix_len is_ascii_digit text
+
+abbrev pub after_code : List ℕ → List ℕ
+after_code text = drop (digits_in text) text
+
+-- a code, a colon and a vendor begin the text
+abbrev pub begins_key : List ℕ → Bool
+begins_key text = nat_lt 0 (digits_in text) && (begins (after_code text) (codes ":") && nat_lt 0 (digits_in (drop 1 (after_code text))))
+
+abbrev pub key_len : List ℕ → ℕ
+key_len text = digits_in text + 1 + digits_in (drop 1 (after_code text))
+
+-- how many bytes of a subject begin the text: `CODE:VENDOR`, or a name
+abbrev pub subject_len : List ℕ → ℕ
+subject_len text = if begins_key text then key_len text else prefix_len is_name_byte text
 
 -- ---- of which command an entry is
 

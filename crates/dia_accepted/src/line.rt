@@ -44,7 +44,7 @@ pub(crate) enum Scope<'a> {
 pub(crate) struct AcceptedLine<'a> {
     pub scope: Scope<'a>,
     pub verdict: Verdict,
-    /// The name of an AVP, an Application-ID, or `-`.
+    /// The name or the code and vendor of an AVP, an Application-ID, or `-`.
     pub subject: &'a [u8],
     /// What is sent and accepted, in any words.
     pub detail: &'a [u8],

@@ -7,6 +7,7 @@ use crate::entries::entry_text;
 use crate::line::AcceptedLine;
 use crate::reading::{Misfit, read_line};
 use std::alloc::{AllocError, Global};
+use thiserror::Error;
 
 /// The most bytes of a list's text (our profile).
 pub const MAX_LIST: usize = 1_048_576;
@@ -44,13 +45,16 @@ impl Entry {
 }
 
 /// Why a text is no list. Lines count from 1.
-#[derive(Clone, Copy, PartialEq, Eq)]
+#[derive(Clone, Copy, Debug, PartialEq, Eq, Error)]
 pub enum ListFault {
     /// The entry of the line has neither form of the lines that `breaking` writes; `at` bytes of the line precede the fault.
+    #[error("line {line}: no line of `breaking`")]
     Syntax { line: u32, at: usize },
     /// The line is one more than [`MAX_LINES`].
+    #[error("line {line}: too many lines")]
     Limit { line: u32 },
     /// Memory was refused.
+    #[error("out of memory")]
     NoMemory,
 }
 

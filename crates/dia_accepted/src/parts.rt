@@ -1,10 +1,10 @@
 //! The bytes of a line's parts, and the end of a line of `--once`.
-ghost use Rattle.std.specs.Prelude.{◌≡◌, ◌≤◌, length, reverse};
+ghost use Rattle.std.specs.Prelude.{◌≡◌, ◌≤◌, length, reverse, true};
 ghost use Rattle.std.specs.Char.{is_ascii_digit};
 ghost use Rattle.std.specs.List.{prefix_len};
 ghost use Rattle.dia_accepted.specs.LineReader.{before_last, is_count, is_counting, is_noun, is_of_part, is_of_word};
 ghost use Rattle.dia_accepted.specs.LineReader.{is_path, is_placing, last_part};
-ghost use Rattle.dia_accepted.specs.Words.{is_name_byte, is_path_byte};
+ghost use Rattle.dia_accepted.specs.Words.{after_code, begins_key, digits_in, is_name_byte, is_path_byte, key_len, subject_len};
 
 use crate::words::{begins, following};
 
@@ -71,6 +71,41 @@ pub(crate) fn names_len(text: &[u8]) -> usize
     text.iter().take_while(|b| is_path_byte(**b)).count()
 }
 
+/// How many bytes of a subject begin a text: of `CODE:VENDOR`, or of a name.
+pub(crate) fn subject_len(text: &[u8]) -> usize
+    ensures len { result ≡ subject_len text.now }
+    ensures within { result ≤ length text.now }
+{
+    if begins_key(text) {
+        key_len(text)
+    } else {
+        name_len(text)
+    }
+}
+
+/// Whether a code, a colon and a vendor begin a text.
+fn begins_key(text: &[u8]) -> bool
+    ensures { result ≡ begins_key text.now }
+{
+    let rest = after_code(text);
+    digits_len(text) > 0 && begins(rest, b":") && digits_len(following(rest, 1)) > 0
+}
+
+/// How many bytes they have.
+fn key_len(text: &[u8]) -> usize
+    requires { begins_key text.now ≡ true }
+    ensures len { result ≡ key_len text.now }
+    ensures within { result ≤ length text.now }
+{
+    digits_len(text) + 1 + digits_len(following(after_code(text), 1))
+}
+
+fn after_code(text: &[u8]) -> &[u8]
+    ensures { result.now ≡ after_code text.now }
+{
+    following(text, digits_len(text))
+}
+
 pub(crate) fn word_len(text: &[u8]) -> usize
     ensures len { result ≡ prefix_len is_of_word text.now }
     ensures within { result ≤ length text.now }
@@ -86,7 +121,7 @@ fn last_part_len(words: &[u8]) -> usize
 }
 
 fn digits_len(text: &[u8]) -> usize
-    ensures { result ≡ prefix_len is_ascii_digit text.now }
+    ensures { result ≡ digits_in text.now }
 {
     text.iter().take_while(|b| is_digit(**b)).count()
 }

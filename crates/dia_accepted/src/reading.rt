@@ -8,12 +8,14 @@ ghost use Rattle.dia_accepted.specs.Lines.{IsLine, IsMisfit, plain_line, plain_s
 
 use crate::line::{AcceptedLine, Reason, Scope, Verdict};
 use crate::parts::{
-    before_last, is_counting, is_placing, last_part, name_len, names_len, word_len,
+    before_last, is_counting, is_placing, last_part, name_len, names_len, subject_len, word_len,
 };
 use crate::words::{begins, following};
+use thiserror::Error;
 
 /// Where words are no line.
-#[derive(Clone, Copy)]
+#[derive(Clone, Copy, Debug, Error)]
+#[error("no line goes on after {at} bytes")]
 pub(crate) struct Misfit {
     /// The bytes that precede the first place at which no line goes on.
     pub at: usize,
@@ -179,7 +181,7 @@ fn read_subject(text: &[u8]) -> Option<(&[u8], &[u8])>
     ensures { option_map (λ parts. (parts.0.now, parts.1.now)) result ≡ subject_read text.now }
 {
     if name_len(text) > 0 {
-        Some(text.split_at(name_len(text)))
+        Some(text.split_at(subject_len(text)))
     } else {
         None
     }

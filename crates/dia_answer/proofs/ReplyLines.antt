@@ -39,34 +39,34 @@ use Rattle.dia_answer.specs.Outcome.{IsAnswerText}
 -- ---- one input
 
 -- it spells a message
-pub message_answered : {E : Type 0} (u : Unknown) (most : Levels) (d : Dictionary) (message : Input) (bytes : List ℕ) (r : Result Answered E) → IsMessageText message bytes
-    → IfOk r (λ a. IsAnswerText u most d bytes (string_bytes a.text) a.exit) → IfOk r (λ a. IsLineAnswered u most d message (string_bytes a.text, a.exit))
-message_answered u most d message bytes (Ok a) is h = inl (bytes, is, h)
-message_answered u most d message bytes (Err e) is h = tt
+pub message_answered : {E : Type 0} (host realm : List ℕ) (u : Unknown) (most : Levels) (d : Dictionary) (message : Input) (bytes : List ℕ) (r : Result Answered E) → IsMessageText message bytes
+    → IfOk r (λ a. IsAnswerText host realm u most d bytes (string_bytes a.text) a.exit) → IfOk r (λ a. IsLineAnswered host realm u most d message (string_bytes a.text, a.exit))
+message_answered host realm u most d message bytes (Ok a) is h = inl (bytes, is, h)
+message_answered host realm u most d message bytes (Err e) is h = tt
 
 -- or none
-pub message_refused : {E : Type 0} (u : Unknown) (most : Levels) (d : Dictionary) (message : Input) (why : BadInput) (r : Result Answered E)
+pub message_refused : {E : Type 0} (host realm : List ℕ) (u : Unknown) (most : Levels) (d : Dictionary) (message : Input) (why : BadInput) (r : Result Answered E)
     → RecordsOf (IsNoMessageText message) (Bad why) → IfOk r (λ a. string_bytes a.text ≡ line (bad_input_text why)) → IfOk r (λ a. a.exit ≡ exits.Bad)
-    → IfOk r (λ a. IsLineAnswered u most d message (string_bytes a.text, a.exit))
-message_refused u most d message why (Ok a) lacks text exit = inr (bad_input_text why, lacks, (text, exit))
-message_refused u most d message why (Err e) lacks text exit = tt
+    → IfOk r (λ a. IsLineAnswered host realm u most d message (string_bytes a.text, a.exit))
+message_refused host realm u most d message why (Ok a) lacks text exit = inr (bad_input_text why, lacks, (text, exit))
+message_refused host realm u most d message why (Err e) lacks text exit = tt
 
-module _ (u : Unknown) (most : Levels) (inputs : Inputs) (d : Dictionary) (is_d : IsDictionaryText inputs.first d) where
+module _ (host realm : List ℕ) (u : Unknown) (most : Levels) (inputs : Inputs) (d : Dictionary) (is_d : IsDictionaryText inputs.first d) where
   -- what is written of a line is what `answer` writes for it
-  pub of_line : (message : Input) (answer : Answer) → IsLineAnswered u most d message answer → OfLine (replies u most) inputs message answer
+  pub of_line : (message : Input) (answer : Answer) → IsLineAnswered host realm u most d message answer → OfLine (replies host realm u most) inputs message answer
   of_line message answer (inl (bytes, is, h)) = ended d bytes is_d is h
   of_line message answer (inr (recorded, none, refuses)) = no_message d recorded is_d none refuses
 
-  pub of_outcome : (message : Input) (outcome : Outcome) → IsLineAnswered u most d message (answer_of outcome) → OfLine (replies u most) inputs message (string_bytes outcome.text, exit_of outcome)
+  pub of_outcome : (message : Input) (outcome : Outcome) → IsLineAnswered host realm u most d message (answer_of outcome) → OfLine (replies host realm u most) inputs message (string_bytes outcome.text, exit_of outcome)
   of_outcome message outcome h = of_line message (answer_of outcome) h
 
-  pub of_message : {E : Type 0} (r : Result Answered E) → IfOk r (λ a. IsLineAnswered u most d inputs.message (string_bytes a.text, a.exit))
-      → IfOk r (λ a. IsMessageOutcome (IsAnswerText u most) inputs (string_bytes a.text) a.exit)
+  pub of_message : {E : Type 0} (r : Result Answered E) → IfOk r (λ a. IsLineAnswered host realm u most d inputs.message (string_bytes a.text, a.exit))
+      → IfOk r (λ a. IsMessageOutcome (IsAnswerText host realm u most) inputs (string_bytes a.text) a.exit)
   of_message (Ok a) h = of_line inputs.message (string_bytes a.text, a.exit) h
   of_message (Err e) h = tt
 
   abbrev Says : Input → Outcome → Type 0
-  Says message outcome = IsLineAnswered u most d message (answer_of outcome)
+  Says message outcome = IsLineAnswered host realm u most d message (answer_of outcome)
 
   abbrev bytes_of : Outcome → List ℕ
   bytes_of outcome = string_bytes outcome.text
@@ -75,12 +75,12 @@ module _ (u : Unknown) (most : Levels) (inputs : Inputs) (d : Dictionary) (is_d 
   same outcomes = without_numbers bytes_of 1 outcomes ∙ same_text answer_of bytes_of text_of (λ outcome. refl) outcomes
 
   of_counted : (fed_old fed put_old put : Option (List ℕ)) (text : List ℕ) → AreLinesCounted Says (recorded_lines (λ number outcome. bytes_of outcome)) exit_of fed_old fed put_old put text
-      → IsReplySummary u most inputs fed_old fed put_old put text
+      → IsReplySummary host realm u most inputs fed_old fed put_old put text
   of_counted fed_old fed put_old put text h = record {
     bytes = h.bytes;
     verdicts = map answer_of h.verdicts;
     consumed = h.consumed;
-    answered = IsAnswered-map Says (OfLine (replies u most) inputs) answer_of of_outcome h.bytes h.verdicts h.answered;
+    answered = IsAnswered-map Says (OfLine (replies host realm u most) inputs) answer_of of_outcome h.bytes h.verdicts h.answered;
     is_put = subst (Appends put_old put) (same h.verdicts) h.is_put;
     summary = h.summary ∙ ap₂ (λ (es : List Exit) (n : ℕ). replies_line (counted (count_by is_yes es)) (counted n))
         (same_exits answer_of (λ (a : Answer). a.1) exit_of (λ outcome. refl) h.verdicts) (sym (length-map h.verdicts answer_of));
@@ -89,9 +89,9 @@ module _ (u : Unknown) (most : Levels) (inputs : Inputs) (d : Dictionary) (is_d 
   -- the summary of the lines
   pub replies_summed : {T : Type 0} (text_of_sum : T → List ℕ) (fed_old fed put_old put : Option (List ℕ)) (now : Option (Result T AllocError))
       → IsMade now (λ text. AreLinesCounted Says (recorded_lines (λ number outcome. bytes_of outcome)) exit_of fed_old fed put_old put (text_of_sum text))
-      → IsMade now (λ text. IsReplySummary u most inputs fed_old fed put_old put (text_of_sum text))
+      → IsMade now (λ text. IsReplySummary host realm u most inputs fed_old fed put_old put (text_of_sum text))
   replies_summed text_of_sum fed_old fed put_old put now made =
-      made_as now _ (λ text. IsReplySummary u most inputs fed_old fed put_old put (text_of_sum text)) (λ text h. of_counted fed_old fed put_old put (text_of_sum text) h) made
+      made_as now _ (λ text. IsReplySummary host realm u most inputs fed_old fed put_old put (text_of_sum text)) (λ text h. of_counted fed_old fed put_old put (text_of_sum text) h) made
 
 -- ---- counts
 

@@ -22,13 +22,13 @@ use Rattle.dia_answer.specs.declared.lines.Replies.{Replies}
 use Rattle.dia_answer.specs.Outcome.{IsAnswerText}
 
 -- the answer to the request that an input spells, or why it is no message
-abbrev pub IsLineAnswered : Unknown → Levels → Dictionary → Input → Answer → Type 0
-IsLineAnswered u most d message answer = ((bytes : List ℕ) × IsMessageText message bytes × IsAnswerText u most d bytes answer.0 answer.1)
+abbrev pub IsLineAnswered : (host realm : List ℕ) → Unknown → Levels → Dictionary → Input → Answer → Type 0
+IsLineAnswered host realm u most d message answer = ((bytes : List ℕ) × IsMessageText message bytes × IsAnswerText host realm u most d bytes answer.0 answer.1)
     ⊎ ((recorded : List ℕ) × IsNoMessageText message recorded × Refuses recorded answer.0 answer.1)
 
--- `answer`: yes where each line has an answer
-abbrev pub replies : Unknown → Levels → MessageCommand
-replies u most = record { outcome = IsMessageOutcome (IsAnswerText u most); refuses = RefusesFirst; exit_of = each_exit }
+-- `answer` by a node with this Origin-Host and Origin-Realm: yes where each line has an answer
+abbrev pub replies : (host realm : List ℕ) → Unknown → Levels → MessageCommand
+replies host realm u most = record { outcome = IsMessageOutcome (IsAnswerText host realm u most); refuses = RefusesFirst; exit_of = each_exit }
 
 -- ---- the summary
 
@@ -46,9 +46,9 @@ pub record AreLinesCounted {V : Type 0} (P : Input → V → Type 0) (recorded :
   pub is_put : Appends put_old put (recorded verdicts)
   pub summary : text ≡ replies_line (counted (count_by is_yes (map exit_of verdicts))) (counted (length verdicts))
 
-abbrev pub IsReplySummary : Unknown → Levels → Inputs → (fed_old fed put_old put : Option (List ℕ)) → List ℕ → Type 0
-IsReplySummary u most inputs fed_old fed put_old put text =
-    AreLinesCounted (OfLine (replies u most) inputs) (flat_map text_of) (λ (a : Answer). a.1) fed_old fed put_old put text
+abbrev pub IsReplySummary : (host realm : List ℕ) → Unknown → Levels → Inputs → (fed_old fed put_old put : Option (List ℕ)) → List ℕ → Type 0
+IsReplySummary host realm u most inputs fed_old fed put_old put text =
+    AreLinesCounted (OfLine (replies host realm u most) inputs) (flat_map text_of) (λ (a : Answer). a.1) fed_old fed put_old put text
 
 -- ---- lines that were seen
 

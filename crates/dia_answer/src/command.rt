@@ -75,12 +75,12 @@ pub fn write_answer<S: Sink>(
 ) -> Result<Reported, RunFault>
     requires { ¬ IsTrue (S.has_failed sink.old) }
     ensures text { IfOk result (λ reported. (text : List ℕ)
-        × IsMessageOutcome (IsAnswerText unknown levels) inputs.now text reported.exit
+        × IsMessageOutcome (IsAnswerText names.now.host.now names.now.realm.now unknown levels) inputs.now text reported.exit
         × Appends (S.written sink.old) (S.written sink.new) text) }
     ensures device { (result ≡ Err RunFault.Device) ↔ IsTrue (S.has_failed sink.new) }
     ensures front { result ≡ Err RunFault.Device
         → (text : List ℕ) × (exit : AnyExit)
-        × IsMessageOutcome (IsAnswerText unknown levels) inputs.now text exit
+        × IsMessageOutcome (IsAnswerText names.now.host.now names.now.realm.now unknown levels) inputs.now text exit
         × AppendsFront (S.written sink.old) (S.written sink.new) text }
     ensures no_memory { result ≡ Err RunFault.NoMemory → S.written sink.new ≡ S.written sink.old }
 {
@@ -98,7 +98,7 @@ fn text_for(
     inputs: &Inputs,
 ) -> Result<Answered, AllocError>
     ensures { IfOk result (λ a. IsMessageOutcome
-        (IsAnswerText unknown levels) inputs.now (string_bytes a.text) a.exit) }
+        (IsAnswerText names.now.host.now names.now.realm.now unknown levels) inputs.now (string_bytes a.text) a.exit) }
 {
     match read_dictionary(alloc, 1, &inputs.first) {
         Ok(first) => text_by(alloc, &first.book, unknown, levels, names, &inputs.message),
@@ -116,7 +116,7 @@ pub(crate) fn text_by<B: Book>(
     names: &Names<'_>,
     message: &Input,
 ) -> Result<Answered, AllocError>
-    ensures { IfOk result (λ a. IsLineAnswered unknown levels
+    ensures { IfOk result (λ a. IsLineAnswered names.now.host.now names.now.realm.now unknown levels
         (B.meaning book.now) message.now (string_bytes a.text, a.exit)) }
 {
     match read_message(alloc, message) {
@@ -135,7 +135,7 @@ fn reply<B: Book>(
     names: &Names<'_>,
     request: &[u8],
 ) -> Result<Answered, AllocError>
-    ensures { IfOk result (λ a. IsAnswerText unknown levels
+    ensures { IfOk result (λ a. IsAnswerText names.now.host.now names.now.realm.now unknown levels
         (B.meaning book.now) request.now (string_bytes a.text) a.exit) }
 {
     match answer(alloc, book, unknown, levels, names, request)? {

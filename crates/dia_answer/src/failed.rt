@@ -2,6 +2,7 @@
 
 ghost use Rattle.std.specs.Prelude.{◌≡◌, ◌++◌, ◌+◌, ◌<◌, ◌≤◌, ◌↔◌, ◌^◌, IfOk, IfSome, IsTrue, OnOk, length};
 ghost use Rattle.std.specs.Option.{option_map};
+ghost use Rattle.byteorder.specs.Endian.{big_bytes};
 ghost use Rattle.dia_wire.specs.Lengths.{header_length};
 ghost use Rattle.dia_wire.specs.Wire.{plain_avp, Agrees};
 ghost use Rattle.dia_wire.specs.Written.{avp_bytes};
@@ -150,13 +151,22 @@ fn push_avp(out: &mut Vec<u8>, avp: &Avp<'_>) -> Result<(), AllocError>
 fn push_head(out: &mut Vec<u8>, avp: &Avp<'_>, length: usize) -> Result<(), AllocError>
     ensures { OnOk result (out.new.items ≡ out.old.items ++ head_bytes (plain_avp avp.now) length) }
 {
-    let mut code = [0; 4];
-    BigEndian::write_u32(&mut code, avp.code);
-    out.extend_from_slice(&code)?;
+    out.extend_from_slice(&four_bytes(avp.code))?;
     out.push(avp.flags)?;
-    out.extend_from_slice(&length.to_be_bytes()[5..])?;
+    let mut size = [0; 8];
+    BigEndian::write_u64(&mut size, length as u64);
+    out.extend_from_slice(&size[5..])?;
     match avp.vendor {
-        Some(vendor) => out.extend_from_slice(&vendor.to_be_bytes()),
+        Some(vendor) => out.extend_from_slice(&four_bytes(vendor)),
         None => Ok(()),
     }
+}
+
+/// A number in network byte order.
+fn four_bytes(number: u32) -> [u8; 4]
+    ensures { result ≡ big_bytes 4 number }
+{
+    let mut bytes = [0; 4];
+    BigEndian::write_u32(&mut bytes, number);
+    bytes
 }

@@ -1,6 +1,7 @@
 //! What an answer is, and why there is none.
 
 use dia_check::Fault;
+use thiserror::Error;
 
 /// By which definition an answer is made.
 #[derive(Debug, Clone, Copy, PartialEq, Eq)]
@@ -23,19 +24,25 @@ pub struct Made {
 }
 
 /// Why a request gets no answer (our profile), in the order in which it is looked for.
-#[derive(Debug, Clone, Copy, PartialEq, Eq)]
+#[derive(Debug, Clone, Copy, PartialEq, Eq, Error)]
 pub enum NoAnswer {
     /// There are fewer bytes than a header's 20.
+    #[error("shorter than a header")]
     Short,
     /// R is clear: it is no request (RFC 6733 section 7.2).
+    #[error("no request")]
     Answer,
     /// There are fewer bytes than the Message Length says.
+    #[error("shorter than its Message Length")]
     Truncated,
     /// There are more bytes than the Message Length says.
+    #[error("longer than its Message Length")]
     Trailing,
     /// The request has no fault.
+    #[error("the request is valid")]
     Valid,
     /// Each answer would be longer than 16,777,212 bytes.
+    #[error("each answer is too long")]
     TooLong,
 }
 

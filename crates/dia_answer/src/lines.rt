@@ -58,14 +58,14 @@ pub fn write_answers<F: Feed, S: Sink>(
 ) -> Result<Captured, LinesFault>
     requires sound_feed { ¬ IsTrue (F.has_failed feed.old) }
     requires sound_sink { ¬ IsTrue (S.has_failed sink.old) }
-    ensures answered { IfOk result (λ captured. AreLinesAnswered (replies unknown levels) inputs.now
+    ensures answered { IfOk result (λ captured. AreLinesAnswered (replies names.now.host.now names.now.realm.now unknown levels) inputs.now
         (F.remaining feed.old) (F.remaining feed.new) (S.written sink.old) (S.written sink.new)
         captured.reported.exit) }
     ensures all { IfOk result
         (λ captured. captured.reported.exit ≢ Exit.Bad → IsAtEnd (F.remaining feed.new)) }
     ensures unread { IfOk result (λ captured. captured.reported.exit ≡ Exit.Bad → feed.new ≡ feed.old) }
     ensures summary { IfOk result (λ captured. captured.reported.exit ≢ Exit.Bad → IsMade captured.summary
-        (λ text. IsReplySummary unknown levels inputs.now (F.remaining feed.old) (F.remaining feed.new)
+        (λ text. IsReplySummary names.now.host.now names.now.realm.now unknown levels inputs.now (F.remaining feed.old) (F.remaining feed.new)
         (S.written sink.old) (S.written sink.new) (string_bytes text))) }
     ensures no_summary { IfOk result
         (λ captured. captured.reported.exit ≡ Exit.Bad → captured.summary ≡ None) }
@@ -73,11 +73,11 @@ pub fn write_answers<F: Feed, S: Sink>(
         (λ captured. captured.reported.exit ≢ Exit.Bad → captured.reported.report ≡ Done) }
     ensures device { (result ≡ Err Device)
         ↔ (IsTrue (F.has_failed feed.new) ⊎ IsTrue (S.has_failed sink.new)) }
-    ensures front { IsErr result → IsFrontPut (replies unknown levels) inputs.now
+    ensures front { IsErr result → IsFrontPut (replies names.now.host.now names.now.realm.now unknown levels) inputs.now
         (F.remaining feed.old) (F.remaining feed.new) (S.written sink.old) (S.written sink.new) }
-    ensures no_memory { result ≡ Err NoMemory → LinesAnswered (OfLine (replies unknown levels) inputs.now)
+    ensures no_memory { result ≡ Err NoMemory → LinesAnswered (OfLine (replies names.now.host.now names.now.realm.now unknown levels) inputs.now)
         (flat_map text_of) (F.remaining feed.old) (F.remaining feed.new) (S.written sink.old) (S.written sink.new) }
-    ensures endless { result ≡ Err Endless → LinesAnswered (OfLine (replies unknown levels) inputs.now)
+    ensures endless { result ≡ Err Endless → LinesAnswered (OfLine (replies names.now.host.now names.now.realm.now unknown levels) inputs.now)
         (flat_map text_of) (F.remaining feed.old) (F.remaining feed.new) (S.written sink.old) (S.written sink.new) }
     ensures pieces { result ≡ Err Endless
         → IfSome (F.remaining feed.old) (λ bytes. most_pieces ≤ length bytes) }
@@ -136,7 +136,7 @@ impl<'a, B: Book> Judge for ReplyJudge<'a, B> {
 
     type Verdict = Outcome;
 
-    ghost says = { λ judge line verdict. IsLineAnswered judge.unknown judge.levels
+    ghost says = { λ judge line verdict. IsLineAnswered judge.names.now.host.now judge.names.now.realm.now judge.unknown judge.levels
         (B.Book.meaning judge.book.now) line (answer_of verdict) };
 
     ghost recorded = { λ _ _ verdict. string_bytes verdict.text };

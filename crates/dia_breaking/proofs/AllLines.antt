@@ -8,7 +8,6 @@ use Rattle.std.proofs.lemmas.Option.{same_Some}
 use Rattle.dia_wire.specs.declared.Header.{Header}
 use Rattle.dia_wire.specs.Wire.{PlainAvp, key_of, HasP, IsMessage}
 use Rattle.dia_book.specs.declared.DRule.{DRule}
-use Rattle.dia_book.specs.declared.DefHead.TheVariants.{Command}
 use Rattle.dia_book.specs.Dictionary.{Dictionary, PlainDefinition, AreRules, IsDictionary, definitions, has_command, selected}
 use Rattle.dia_book.proofs.Members.{at_map, into_left, into_map}
 use Rattle.dia_terms.specs.declared.Unknown.{Unknown}
@@ -40,7 +39,7 @@ use Rattle.dia_breaking.specs.declared.start.Start.{Start}
 use Rattle.dia_breaking.specs.Free.{AreValidWhereFree, HasThisP, IsFree, IsFreeLevel, IsReadBy, RecordsFlags}
 use Rattle.dia_breaking.specs.Headers.{HasHead, IsCommandPlace, RecordsRefusal, allows, head_in}
 use Rattle.dia_breaking.specs.LevelCosts.{PicksShortest}
-use Rattle.dia_breaking.specs.Lengths.{Costs}
+use Rattle.dia_breaking.specs.Lengths.{Costs, other_in, others_in}
 use Rattle.dia_breaking.specs.Listing.{Recorded, Basis, IsListing, IsWalkFrom, basis_of, command_levels, flag_causes, header_causes, header_line, header_lines, own_lines, refusal, start_of, records}
 use Rattle.dia_breaking.specs.Corrected.{AreValidOnceCorrected, IsLevelAt, IsCorrectedFor}
 use Rattle.dia_breaking.specs.Readings.{AreReadings}
@@ -118,11 +117,11 @@ module _ (da db : Dictionary) (who : Sends) (u : Unknown) (made : Facts) (start 
         let keep = sent_keys da db who u k.listed floors x.rules (max_body - top.stage.way) sent.avps top.level in
         let same = stand_price da who made.lengths x.rules (map key_of sent.avps) keep.0 in
         let rules = rules_of_def da c x sent.is_command in
-        let least = least_within k.listed k.other k.others (rules_in da c) start.base
+        let least = least_within k.listed (other_in k (rules_in da c)) (others_in k (rules_in da c)) (rules_in da c) start.base
         (subst (λ (rs : List DRule). AreRules rs) (sym rules) (sound_rules da c x sa sent.is_command)) (is_start.base_is ∙ is_start.are_exits.base)
-        (one_is_shortest k.other k.others (rules_in da c) db (shortest c)) (map key_of sent.avps)
+        (one_is_shortest (other_in k (rules_in da c)) (others_in k (rules_in da c)) (rules_in da c) db (shortest c)) (map key_of sent.avps)
         (subst (λ (rs : List DRule). Placed rs (map key_of sent.avps)) (sym rules) (stand_placed who x.rules (map key_of sent.avps) keep.0)) in
-        let moved = ap (λ (rs : List DRule). total (price k.listed k.other rs) (map key_of sent.avps)) rules in
+        let moved = ap (λ (rs : List DRule). total (price k.listed (other_in k rs) rs) (map key_of sent.avps)) rules in
         let room = keep.1 in
         omega (arith, least, moved, same, room)
 

@@ -6,7 +6,7 @@ use Rattle.dia_book.specs.Dictionary.{Dictionary, definitions}
 use Rattle.dia_terms.specs.declared.Unknown.{Unknown}
 use Rattle.dia_terms.specs.declared.Levels.TheVariants as levels
 use Rattle.dia_terms.specs.declared.Sends.{Sends}
-use Rattle.dia_terms.specs.declared.Sends.TheVariants.{Any, Known, Listed}
+use Rattle.dia_terms.specs.declared.Sends.TheVariants.{Any, Known, Filled, Listed}
 use Rattle.dia_valid.specs.Valid.{IsValid, IsValidOf}
 use Rattle.dia_breaking_sites.specs.Sent.{own_policy, AreBytes}
 use Rattle.dia_breaking_sites.proofs.SentIsValid.{sent_valid, valid_sent}
@@ -17,8 +17,9 @@ use Rattle.dia_breaking.specs.Sides.{sides}
 
 pub confirmed : (da db : Dictionary) (who : Sends) (u : Unknown) (bytes : List ℕ) (c : ℕ) → AreBytes bytes → IsValidOf da (own_policy who) levels.Any bytes c
     → (¬ IsValid db u levels.Any bytes) → IsConfirmed (sides da db who u) bytes c
-confirmed da db Any u bytes c are valid refused = (valid_sent da Any bytes c (λ e. absurd cc) are valid, refused)
-confirmed da db Known u bytes c are valid refused = (valid_sent da Known bytes c (λ e. absurd cc) are valid, refused)
+confirmed da db Any u bytes c are valid refused = (valid_sent da Any bytes c (λ e. absurd cc) (λ e. absurd cc) are valid, refused)
+confirmed da db Known u bytes c are valid refused = (valid_sent da Known bytes c (λ e. absurd cc) (λ e. absurd cc) are valid, refused)
+confirmed da db Filled u bytes c are valid refused = (valid, refused)
 confirmed da db Listed u bytes c are valid refused = (valid, refused)
 
 pub are_bytes : (xs : List ℕ) → ((k : ℕ) → get_or xs k 0 < 256) → AreBytes xs
@@ -37,6 +38,7 @@ pub valid_of : (da db : Dictionary) (who : Sends) (u : Unknown) (bytes : List �
     → IsValidOf da (own_policy who) levels.Any bytes c × (¬ IsValid db u levels.Any bytes)
 valid_of da db Any u bytes c h = (sent_valid da Any bytes c h.0, h.1)
 valid_of da db Known u bytes c h = (sent_valid da Known bytes c h.0, h.1)
+valid_of da db Filled u bytes c h = h
 valid_of da db Listed u bytes c h = h
 
 -- a message that breaks isn't accepted, and is one that is sent

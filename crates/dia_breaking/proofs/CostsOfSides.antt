@@ -1,17 +1,19 @@
 -- What AVPs of the sender's side take is above 0, and the lines of a command are made by it.
-use Rattle.std.proofs.Common.{◌≡◌, ℕ, ◌<◌, List, Option, Some, None, ap, subst, ◌∙◌, arith}
-use Rattle.std.specs.Prelude.{min, max, slice_get}
+use Rattle.std.proofs.Common.{◌≡◌, ℕ, ◌<◌, Bool, true, false, List, Option, Some, None, ap, subst, ◌∙◌, arith}
+use Rattle.std.specs.Prelude.{if◌then◌else◌, min, max, slice_get}
 use Rattle.std.specs.Option.{option_map_or}
 use Rattle.dia_wire.specs.declared.Key.{Key}
 use Rattle.dia_wire.specs.Wire.{head_length}
+use Rattle.dia_book.specs.declared.DRule.{DRule}
 use Rattle.dia_book.specs.Dictionary.{Dictionary, entry_of}
 use Rattle.dia_terms.specs.declared.Sends.{Sends}
-use Rattle.dia_terms.specs.declared.Sends.TheVariants.{Any, Known, Listed}
+use Rattle.dia_terms.specs.declared.Sends.TheVariants.{Any, Known, Filled, Listed}
+use Rattle.dia_breaking_sites.specs.Sent.{is_open}
 use Rattle.dia_breaking_levels.specs.LevelTests.{too_long}
 use Rattle.dia_breaking_levels.specs.Showing.{HaveLengths}
 use Rattle.dia_breaking_shortest.specs.Exact.{AreExact}
 use Rattle.dia_breaking_shortest.proofs.OneSolution.{lengths_are_one}
-use Rattle.dia_breaking.specs.Lengths.{Costs, costs_by, length_of_entry, listed_length, other_length, unknown_length, AreEntryLengths, AreExactlyOthers}
+use Rattle.dia_breaking.specs.Lengths.{Costs, costs_by, length_of_entry, listed_length, other_in, other_length, unknown_length, AreEntryLengths, AreExactlyOthers}
 use Rattle.dia_breaking.specs.Sides.{Sides}
 use Rattle.dia_breaking.specs.TheLines.{AreFacts, Facts, costs_in}
 use Rattle.dia_breaking.proofs.OneSolution.{one_list_of_others}
@@ -27,6 +29,7 @@ have_listed d who lengths key = by (entry_of d key)
     unknown : (who : Sends) → 0 < unknown_length who key
     unknown Any = some_head _
     unknown Known = omega arith
+    unknown Filled = omega arith
     unknown Listed = omega arith
 
     entry : (o : Option ℕ) → 0 < option_map_or (λ n. min (max n 8) too_long) o too_long
@@ -40,7 +43,16 @@ have_listed d who lengths key = by (entry_of d key)
 pub have_other : (d : Dictionary) (who : Sends) (lengths : List ℕ) → HaveLengths (other_length d who lengths)
 have_other d Any lengths key = have_listed d Any lengths key
 have_other d Known lengths key = have_listed d Known lengths key
+have_other d Filled lengths key = have_listed d Filled lengths key
 have_other d Listed lengths key = omega arith
+
+-- also by the wildcard of these rules
+pub have_other_in : (d : Dictionary) (who : Sends) (lengths : List ℕ) (others : List Key) (rules : List DRule) → HaveLengths (other_in (costs_by d who lengths others) rules)
+have_other_in d who lengths others rules key = by (is_open who rules)
+  where
+    by : (b : Bool) → 0 < (if b then other_length d who lengths key else too_long)
+    by true = have_other d who lengths key
+    by false = omega arith
 
 -- these are what the AVPs of the sender's side take
 abbrev pub AreCostsOf : Sides → Costs → Type 0

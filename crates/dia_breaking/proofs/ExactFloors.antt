@@ -1,6 +1,6 @@
 -- No AVP that is sent is shorter than the exact length of its key.
-use Rattle.std.proofs.Common.{◌≡◌, ℕ, ◌+◌, ◌≤◌, Bool, true, false, List, [], ◌∷◌, length, Option, Some, None, refl, sym, ap, subst, ◌∙◌, arith}
-use Rattle.std.specs.Prelude.{slice_get, option_and_then, if◌then◌else◌}
+use Rattle.std.proofs.Common.{◌≡◌, ℕ, ◌+◌, ◌≤◌, Bool, true, false, List, [], ◌∷◌, length, Option, Some, None, refl, sym, ap, subst, ◌∙◌, arith, inl, inr}
+use Rattle.std.specs.Prelude.{◌⊎◌, IsTrue, slice_get, option_and_then, if◌then◌else◌}
 use Rattle.std.specs.Option.{option_map_or}
 use Rattle.std.proofs.lemmas.Bool.{both_ways}
 use Rattle.std.proofs.lemmas.Option.{none-some, same_Some}
@@ -8,11 +8,11 @@ use Rattle.dia_wire.specs.declared.Key.{Key}
 use Rattle.dia_book.specs.declared.DRule.{DRule}
 use Rattle.dia_book.specs.Dictionary.{Dictionary, DictEntry, PlainDefinition, AreRules, IsDictionary, definitions, entry_of}
 use Rattle.dia_terms.specs.declared.Sends.{Sends}
-use Rattle.dia_terms.specs.declared.Sends.TheVariants.{Any, Known, Listed}
-use Rattle.dia_valid.specs.Valid.{known, is_listed}
+use Rattle.dia_terms.specs.declared.Sends.TheVariants.{Any, Known, Filled, Listed}
+use Rattle.dia_valid.specs.Valid.{known, is_listed, Placed}
 use Rattle.dia_valid.proofs.GroupNumbers.{group_there}
 use Rattle.dia_valid.proofs.Members.{IsIn, in_all}
-use Rattle.dia_breaking_sites.specs.Sent.{StandAsSent}
+use Rattle.dia_breaking_sites.specs.Sent.{is_open, AreListed, StandAsSent}
 use Rattle.dia_breaking_avps.proofs.NoLevels.{of_bytes}
 use Rattle.dia_breaking_levels.specs.LevelTests.{base_length, price}
 use Rattle.dia_breaking_levels.proofs.CountsAndRanks.{rules_sound}
@@ -24,8 +24,8 @@ use Rattle.dia_breaking_shortest.specs.Lengths.{entry_length, length_of, unknown
 use Rattle.dia_breaking_shortest.proofs.FloorsOfAvps.{rounded_more, rounded_up}
 use Rattle.dia_breaking_shortest.proofs.FloorsOfLengths.{HasEntry, entry_at, not_known}
 use Rattle.dia_breaking_shortest.proofs.LeafLengths.{head_long, leaf_floor, leaf_within}
+use Rattle.dia_breaking_shortest.proofs.OpenLevels.{open_base}
 use Rattle.dia_breaking.specs.Lengths.{AreEntryLengths, listed_length}
-use Rattle.dia_breaking.proofs.SentPrices.{stand_placed}
 use Rattle.dia_breaking.proofs.FloorsOfEntries.{floors_of_entries}
 use Rattle.dia_breaking.proofs.Lists.{all_in, contains_at}
 
@@ -57,6 +57,7 @@ module _ (d : Dictionary) (who : Sends) (lengths : List ℕ) (sound : IsDictiona
   low : (sends : Sends) (key : Key) → 8 ≤ unknown_length sends key
   low Any key = head_long key
   low Known key = omega arith
+  low Filled key = omega arith
   low Listed key = omega arith
 
   -- no length is below a head
@@ -85,22 +86,32 @@ module _ (d : Dictionary) (who : Sends) (lengths : List ℕ) (sound : IsDictiona
           let more = entry_long h.place h.entry h.at in
           omega (arith, same, more)
 
-  -- what the wildcard's least count is met with is no longer than any AVP that comes through it
-  filler_least : (sends : Sends) → who ≡ sends → (rules : List DRule) (filler : ℕ) → IsFillerLength d sends lengths rules filler → (keys : List Key) → StandAsSent sends rules keys → (key : Key) → IsIn key keys
-      → is_listed rules key ≡ false → filler ≤ f key
-  filler_least Any is rules filler least keys stand key i none = let more = at_least_head key in omega (arith, least, more)
-  filler_least Known is rules filler least keys stand key i none =
-      let le = least.none_is_shorter key none in
-      let same : f key ≡ length_of d Known lengths key = ap (λ (s : Sends). length_of d s lengths key) is in
-      omega (arith, le, same)
-  filler_least Listed is rules filler least keys stand key i none = absurd (both_ways (is_listed rules key) none (in_all (λ (k : Key). is_listed rules k ≡ true) key keys stand.1 i))
-
-  level_within : (rules : List DRule) (filler : ℕ) → AreRules rules → IsFillerLength d who lengths rules filler → (keys : List Key) → StandAsSent who rules keys → base_length f filler rules ≤ total f keys
-  level_within rules filler are least keys stand =
+  level_by : (rules : List DRule) (filler : ℕ) → AreRules rules → (keys : List Key) → Placed rules keys → ((key : Key) → IsIn key keys → is_listed rules key ≡ false → filler ≤ f key)
+      → base_length f filler rules ≤ total f keys
+  level_by rules filler are keys placed least =
       let base = base_within f filler rules in
-      let floor = floor_least rules f f filler keys (rules_sound rules are) (stand_placed who rules keys stand) (λ q i none. filler_least who refl rules filler least keys stand q i none) in
+      let floor = floor_least rules f f filler keys (rules_sound rules are) placed least in
       let same = price_alike f rules keys in
       omega (arith, base, floor, same)
+
+  -- a level that has AVPs by a wildcard is no shorter than the rules ask for with the filler
+  open_within : (sends : Sends) → who ≡ sends → (rules : List DRule) (filler : ℕ) → AreRules rules → IsFillerLength d sends lengths rules filler → (keys : List Key) → Placed rules keys
+      → IsTrue (is_open sends rules) → base_length f filler rules ≤ total f keys
+  open_within Any is rules filler are least keys placed lets = level_by rules filler are keys placed (λ key i none. let more = at_least_head key in omega (arith, least, more))
+  open_within Known is rules filler are least keys placed lets =
+      level_by rules filler are keys placed (λ key i none.
+      let le = least.none_is_shorter key none in
+      let same : f key ≡ length_of d Known lengths key = ap (λ (s : Sends). length_of d s lengths key) is in
+      omega (arith, le, same))
+  open_within Filled is rules filler are least keys placed lets = let none = open_base f filler rules are lets in omega (arith, none)
+  open_within Listed is rules filler are least keys placed lets = absurd (let bad : false ≡ true = lets in cc)
+
+  level_within : (rules : List DRule) (filler : ℕ) → AreRules rules → IsFillerLength d who lengths rules filler → (keys : List Key) → StandAsSent who rules keys → base_length f filler rules ≤ total f keys
+  level_within rules filler are least keys stand = by stand.1
+    where
+      by : IsTrue (is_open who rules) ⊎ AreListed rules keys → base_length f filler rules ≤ total f keys
+      by (inl lets) = open_within who refl rules filler are least keys stand.0 lets
+      by (inr all) = level_by rules filler are keys stand.0 (λ key i none. absurd (both_ways (is_listed rules key) none (in_all (λ (k : Key). is_listed rules k ≡ true) key keys all i)))
 
   exact_floors : AreFloors d who f
   exact_floors = record {

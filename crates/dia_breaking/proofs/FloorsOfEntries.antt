@@ -10,7 +10,7 @@ use Rattle.dia_book.specs.Dictionary.{Dictionary, DictEntry, entry_of}
 use Rattle.dia_valid.proofs.KnownKeys.{known_by_entry}
 use Rattle.dia_valid.specs.Valid.{known}
 use Rattle.dia_terms.specs.declared.Sends.{Sends}
-use Rattle.dia_terms.specs.declared.Sends.TheVariants.{Any, Known, Listed}
+use Rattle.dia_terms.specs.declared.Sends.TheVariants.{Any, Known, Filled, Listed}
 use Rattle.dia_breaking_levels.specs.LevelTests.{too_long}
 use Rattle.dia_breaking_shortest.specs.Floors.{AreFloors, shortest_head, padded, total}
 use Rattle.dia_breaking_shortest.specs.Lengths.{entry_length, length_of, unknown_length as unknown_floor}
@@ -81,6 +81,7 @@ module _ (d : Dictionary) (who : Sends) (xs ys : List ℕ) (same : AreSameLength
   unknown_same : (sends : Sends) (key : Key) → unknown_length sends key ≡ unknown_floor sends key
   unknown_same Any key = refl
   unknown_same Known key = refl
+  unknown_same Filled key = refl
   unknown_same Listed key = refl
 
   -- the length of a key is its floor, but for what is less than a head or more than a message has

@@ -82,10 +82,9 @@ listed_le cost rule base length same le = by (zero_or_room rule.max)
     by (inl (e, f)) = subst (λ (b : Bool). IsBelow b (has_room 1 rule.max)) (sym e) (subst (λ (c : Bool). IsBelow true c) (sym f) (omega arith))
     by (inr (e, f)) = subst (λ (b : Bool). IsBelow b (has_room 1 rule.max)) (sym e) (subst (λ (c : Bool). IsBelow false c) (sym f) (listed_room base length rule cost.base same le))
 
-other_room : (base filler length : ℕ) (wild : DRule) (own : ℕ) → own ≡ (if nat_le too_long base then too_long else if nat_lt 0 wild.min then base - filler else base) → base ≤ too_long
-    → filler ≤ length
-    → capped (own + length) ≤ swapped base (many (min 1 wild.min) filler) (many 1 length)
-other_room base filler length wild own is le shortest = by (nat_le too_long base) refl (nat_lt 0 wild.min) refl is
+other_room : (base filler length : ℕ) (wild : DRule) (own : ℕ) → own ≡ (if nat_le too_long base || nat_le too_long filler then too_long else if nat_lt 0 wild.min then base - filler else base)
+    → base ≤ too_long → filler ≤ length → capped (own + length) ≤ swapped base (many (min 1 wild.min) filler) (many 1 length)
+other_room base filler length wild own is le shortest = any (nat_le too_long filler) refl is
   where
     one : many 1 length ≡ capped length
     one = let h : 1 * length ≡ length = omega arith in omega (arith, h)
@@ -113,6 +112,21 @@ other_room base filler length wild own is le shortest = by (nat_le too_long base
         without true e is out o into i = let long = leb-true too_long base e in omega (arith, is, o, i, long)
         without false e is out o into i = omega (arith, is, o, i)
 
+    or_none : (b : Bool) → (b || false) ≡ b
+    or_none true = refl
+    or_none false = refl
+
+    -- a long one
+    beyond : (out into : ℕ) → into ≡ capped length → too_long ≤ filler → capped (own + length) ≤ swapped base out into
+    beyond out into i long = omega (arith, i, long, shortest)
+
+    any : (b : Bool) → nat_le too_long filler ≡ b → own ≡ (if nat_le too_long base || b then too_long else if nat_lt 0 wild.min then base - filler else base)
+        → capped (own + length) ≤ swapped base (many (min 1 wild.min) filler) (many 1 length)
+    any true e is = beyond (many (min 1 wild.min) filler) (many 1 length) one (leb-true too_long filler e)
+    any false e is =
+        by (nat_le too_long base) refl (nat_lt 0 wild.min) refl
+        (is ∙ ap (λ (b : Bool). if b then too_long else if nat_lt 0 wild.min then base - filler else base) (or_none (nat_le too_long base)))
+
 -- with one by the wildcard
 other_le : (cost : LevelCost) (base filler length : ℕ) (w : Option DRule) → cost.beside ≡ option_map_or (beside_of base filler) w too_long → base ≤ too_long → filler ≤ length
     → with_other cost length ≤ other_at_least base filler length 1 w
@@ -123,8 +137,8 @@ other_le cost base filler length (Some wild) is le shortest = by (zero_or_room w
         → with_other cost length ≤ (if has_room 1 wild.max then swapped base (many (min 1 wild.min) filler) (many 1 length) else too_long)
     by (inl (e, f)) = subst (λ (c : Bool). with_other cost length ≤ (if c then swapped base (many (min 1 wild.min) filler) (many 1 length) else too_long)) (sym f) (omega arith)
     by (inr (e, f)) =
-        let own : cost.beside ≡ (if nat_le too_long base then too_long else if nat_lt 0 wild.min then base - filler else base) =
-        is ∙ ap (λ (b : Bool). if b || nat_le too_long base then too_long else if nat_lt 0 wild.min then base - filler else base) e in
+        let own : cost.beside ≡ (if nat_le too_long base || nat_le too_long filler then too_long else if nat_lt 0 wild.min then base - filler else base) =
+        is ∙ ap (λ (b : Bool). if b || nat_le too_long base || nat_le too_long filler then too_long else if nat_lt 0 wild.min then base - filler else base) e in
         subst (λ (c : Bool). with_other cost length ≤ (if c then swapped base (many (min 1 wild.min) filler) (many 1 length) else too_long)) (sym f)
         (other_room base filler length wild cost.beside own le shortest)
 

@@ -6,7 +6,7 @@ use Rattle.dia_wire.specs.declared.Key.{Key}
 use Rattle.dia_valid.specs.Rules.{rules_in}
 use Rattle.dia_breaking_levels.specs.declared.line.Line.{Line as LevelLine}
 use Rattle.dia_breaking_levels.specs.declared.line.Part.{Part}
-use Rattle.dia_breaking_levels.specs.Chosen.{IsLineLevel, Reads, least_parts, parts_with, reads_between}
+use Rattle.dia_breaking_levels.specs.Chosen.{IsLineLevel, Reads, least_parts, parts_with}
 use Rattle.dia_breaking_levels.proofs.OneLineLevel.{one_level}
 use Rattle.dia_breaking_shortest.specs.Bytes.{parts_bytes}
 use Rattle.dia_breaking.specs.declared.heads.Head.{Head}
@@ -15,9 +15,9 @@ use Rattle.dia_breaking.specs.declared.line.Cause.TheVariants as causes
 use Rattle.dia_breaking.specs.declared.line.Line.{Line}
 use Rattle.dia_breaking.specs.declared.line.Place.{Place}
 use Rattle.dia_breaking.specs.declared.line.Site.{Site}
-use Rattle.dia_breaking.specs.Lengths.{Costs}
+use Rattle.dia_breaking.specs.Lengths.{Costs, others_in}
 use Rattle.dia_breaking.specs.Messages.{AreParts, IsAlone, IsInnermost, IsLineMessage, IsMessageFor, Shown, Stock}
-use Rattle.dia_breaking.specs.Messages.{command_head, front_parts, group_head, header_bytes, key_at, level_round, levels_from, levels_on, read_number, rest_parts, sent_number, shortest_avp, shown, shown_avp}
+use Rattle.dia_breaking.specs.Messages.{command_head, front_parts, group_head, header_bytes, key_at, level_round, levels_from, levels_on, read_number, reads_in, rest_parts, sent_number, shortest_avp, shown, shown_avp}
 use Rattle.dia_breaking.specs.Messages.{site_round, wants_m, with_m}
 use Rattle.dia_breaking.specs.Sides.{Sides}
 use Rattle.dia_breaking.specs.Words.{path_to}
@@ -26,10 +26,10 @@ module _ (s : Sides) (k l : Stock) (c : ℕ) (avps : shortest_avp s k ≡ shorte
   -- ---- the level of the line
 
   abbrev least_by : ℕ → Costs → List Part
-  least_by def costs = least_parts costs.others (rules_in s.sender def)
+  least_by def costs = least_parts (others_in costs (rules_in s.sender def)) (rules_in s.sender def)
 
   abbrev reads_by : ℕ → ℕ → Costs → Reads
-  reads_by def other costs = reads_between (rules_in s.sender def) (rules_in s.receiver other) costs.listed costs.other costs.others
+  reads_by def other costs = reads_in costs (rules_in s.sender def) (rules_in s.receiver other)
 
   one_least : (def : ℕ) (xs ys : List Part) → xs ≡ least_by def k.costs → ys ≡ least_by def l.costs → xs ≡ ys
   one_least def xs ys a b = a ∙ ap (least_by def) costs ∙ sym b
@@ -61,7 +61,7 @@ module _ (s : Sides) (k l : Stock) (c : ℕ) (avps : shortest_avp s k ≡ shorte
   -- ---- the levels round it
 
   abbrev parts_by : Place → Key → Costs → List Part
-  parts_by place key costs = option_map_or (λ def. parts_with costs.others (rules_in s.sender def) key) (sent_number s c place) []
+  parts_by place key costs = option_map_or (λ def. parts_with (others_in costs (rules_in s.sender def)) (rules_in s.sender def) key) (sent_number s c place) []
 
   abbrev round_by : (Key → List ℕ) → Place → Key → List ℕ → Costs → List ℕ
   round_by avp place key bytes costs = parts_bytes avp (front_parts key (parts_by place key costs)) ++ bytes ++ parts_bytes avp (rest_parts key (parts_by place key costs))

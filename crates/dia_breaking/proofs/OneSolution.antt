@@ -9,7 +9,7 @@ use Rattle.dia_book.specs.Keys.{same_key}
 use Rattle.dia_book.specs.Dictionary.{Dictionary}
 use Rattle.dia_terms.specs.declared.Unknown.{Unknown}
 use Rattle.dia_terms.specs.declared.Sends.{Sends}
-use Rattle.dia_terms.specs.declared.Sends.TheVariants.{Any, Known, Listed}
+use Rattle.dia_terms.specs.declared.Sends.TheVariants.{Any, Known, Filled, Listed}
 use Rattle.dia_breaking.specs.declared.apps.Apps.{Apps}
 use Rattle.dia_breaking.specs.declared.heads.Head.{Head}
 use Rattle.dia_breaking.specs.declared.keys.Own.{Own}
@@ -34,6 +34,7 @@ pub one_list_sent : (da db : Dictionary) (who : Sends) (keys others : List Key) 
 one_list_sent da db Any keys others (s, is, are) (t, is_other, are_other) =
     are ∙ ap (λ (k : Key). (entry_keys da ++ keys_of_b_alone da db) ++ k ∷ []) (one_stranger da db s t is is_other) ∙ sym are_other
 one_list_sent da db Known keys others are are_other = are ∙ sym are_other
+one_list_sent da db Filled keys others are are_other = are ∙ sym are_other
 one_list_sent da db Listed keys others are are_other = are ∙ sym are_other
 
 -- two tests that are false alike
@@ -121,4 +122,6 @@ pub one_list_of_others : (da db : Dictionary) (who : Sends) (lengths : List ℕ)
 one_list_of_others da db Any lengths keys others (s, is, are) (t, is_other, are_other) = are ∙ ap (λ (k : Key). k ∷ []) (one_stranger da db s t is is_other) ∙ sym are_other
 one_list_of_others da db Known lengths keys others (up, all, stable) (up_other, all_other, stable_other) =
     one_sorted (listed_length da Known lengths) (entry_keys da) keys others up up_other stable stable_other
+one_list_of_others da db Filled lengths keys others (up, all, stable) (up_other, all_other, stable_other) =
+    one_sorted (listed_length da Filled lengths) (entry_keys da) keys others up up_other stable stable_other
 one_list_of_others da db Listed lengths keys others are are_other = are ∙ sym are_other

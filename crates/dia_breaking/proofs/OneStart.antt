@@ -25,8 +25,8 @@ use Rattle.dia_breaking.specs.declared.readings.Reading.{Reading}
 use Rattle.dia_breaking.specs.declared.start.Start.{Start}
 use Rattle.dia_breaking.specs.Exits.{AreExits, IsInnerOrNone, IsOutlook, exit_by}
 use Rattle.dia_breaking.specs.Headers.{AreApps, apps_of, row_app, both_apps}
-use Rattle.dia_breaking.specs.Lengths.{Costs}
-use Rattle.dia_breaking.specs.LevelCosts.{cost_of, with_listed}
+use Rattle.dia_breaking.specs.Lengths.{Costs, other_in, others_in}
+use Rattle.dia_breaking.specs.LevelCosts.{cost_in, with_listed}
 use Rattle.dia_breaking.specs.Listing.{lines_in}
 use Rattle.dia_breaking.specs.Nodes.{exits_in, level_in, node_in}
 use Rattle.dia_breaking.specs.Outlooks.{group_rules}
@@ -40,7 +40,7 @@ use Rattle.dia_breaking.proofs.OneSolution.{first_key, one_list_of_apps, rest_ke
 module _ (k : Costs) (t next : Recording) (places : (key : Key) → get same_key t.places key ≡ get same_key next.places key) where
   pub one_exits : (rules : List DRule) (x y : Exits) → AreExits t k rules x → AreExits next k rules y → (x.base ≡ y.base) × (exits_in x ≡ exits_in y)
   one_exits rules x y is are =
-      let cost = cost_of k.listed k.other k.others rules in
+      let cost = cost_in k rules in
       let moved : filter_map (exit_by t k.listed cost) rules ≡ filter_map (exit_by next k.listed cost) rules =
       λ i. filter_map (λ (rule : DRule). option_and_then (λ (key : Key). option_map (λ (place : ℕ). (place, with_listed cost rule (k.listed key))) (places key i)) rule.key) rules in
       let lists : x.listed.items ≡ y.listed.items = is.listed_are ∙ moved ∙ sym are.listed_are in
@@ -64,7 +64,7 @@ module _ (k : Costs) (t next : Recording) (places : (key : Key) → get same_key
     one_inner key (Some x) (Some y) is are lines more =
         let exits = one_exits (group_rules da key) x.exits y.exits is.1.exits are.1.exits in
         let least : x.least ≡ y.least = is.1.least ∙ sym are.1.least in
-        let same = lines_one k.listed k.other k.others (group_rules da key) (group_rules db key) x.lines.items y.lines.items lines more in
+        let same = lines_one k.listed (other_in k (group_rules da key)) (others_in k (group_rules da key)) (group_rules da key) (group_rules db key) x.lines.items y.lines.items lines more in
         (λ i. Some (record { least = least i; exits = exits.1 i }), same)
 
     abbrev IsKept : Recording → Outlook → Type 0
@@ -127,7 +127,7 @@ module _ (da db : Dictionary) (k : Costs) where
   one_between false a b x y is are = is ∙ sym are
   one_between true None b x y is are = is ∙ sym are
   one_between true (Some a) None x y is are = is ∙ sym are
-  one_between true (Some a) (Some b) x y is are = lines_one k.listed k.other k.others (rules_in da a) (rules_in db b) x y is are
+  one_between true (Some a) (Some b) x y is are = lines_one k.listed (other_in k (rules_in da a)) (others_in k (rules_in da a)) (rules_in da a) (rules_in db b) x y is are
 
   one_level : (head : Head) (reading : Reading) (x y : List LevelLine) → IsCommandLevel da db k head reading x → IsCommandLevel da db k head reading y → x ≡ y
   one_level head reading x y is are = one_between _ _ _ x y is are

@@ -9,7 +9,7 @@ use Rattle.dia_book.specs.Dictionary.{Dictionary, DictEntry, IsDictionary, entry
 use Rattle.dia_book.proofs.Members.{AreApart, AreApart-filter, at_append, at_filter, at_map, position-is_some}
 use Rattle.dia_book.proofs.SameKeys.{same_key-equal}
 use Rattle.dia_terms.specs.declared.Sends.{Sends}
-use Rattle.dia_terms.specs.declared.Sends.TheVariants.{Any, Known, Listed}
+use Rattle.dia_terms.specs.declared.Sends.TheVariants.{Any, Known, Filled, Listed}
 use Rattle.dia_breaking.specs.SentKeys.{AreSentInOrder, IsStrange, IsStranger, entry_keys, keys_of_b_alone}
 
 -- ---- the stranger
@@ -113,4 +113,5 @@ module _ (da db : Dictionary) (sa : IsDictionary da) (sb : IsDictionary db) wher
   pub sent_apart : (who : Sends) (keys : List Key) → AreSentInOrder da db who keys → AreApart (λ (k : Key). k) keys
   sent_apart Any keys (stranger, is, are) = subst (AreApart (λ (k : Key). k)) (sym are) (of_all stranger is)
   sent_apart Known keys are = subst (AreApart (λ (k : Key). k)) (sym are) of_a
+  sent_apart Filled keys are = subst (AreApart (λ (k : Key). k)) (sym are) of_a
   sent_apart Listed keys are = subst (AreApart (λ (k : Key). k)) (sym are) of_a

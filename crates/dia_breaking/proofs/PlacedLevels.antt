@@ -34,7 +34,7 @@ use Rattle.dia_breaking.specs.declared.own_breaks.OwnBreaks.{OwnBreaks}
 use Rattle.dia_breaking.specs.Free.{IsFreeLevel, IsReadBy}
 use Rattle.dia_breaking.specs.SentLevels.{IsSentKeys}
 use Rattle.dia_breaking.specs.LevelCosts.{PicksShortest}
-use Rattle.dia_breaking.specs.Lengths.{Costs}
+use Rattle.dia_breaking.specs.Lengths.{Costs, other_in, others_in}
 use Rattle.dia_breaking.specs.Nodes.{node_in}
 use Rattle.dia_breaking.specs.Listing.{Recorded, group_levels, level_lines, lines_in, with_room}
 use Rattle.dia_breaking.specs.Orders.{of_each}
@@ -84,7 +84,7 @@ module _ (da db : Dictionary) (who : Sends) (u : Unknown) (made : Facts) (facts 
       → AreLinesOf k x.rules y.rules found → (way : ℕ) → way ≤ max_body → (avps : List PlainAvp) → IsLevelOf da who x.rules (max_body - way) avps
       → ((line : LevelLine) → Contains found line → way + line.length ≤ max_body → ¬ ShowsAt x.rules y.rules (map key_of avps) line.reason line.key) → Placed y.rules (map key_of avps)
   level_placed x y a b at_a at_b found exact way fits avps level refuses =
-      by (exact_each k.listed k.other k.others x.rules y.rules found (sound_rules da a x sa at_a) (sound_rules db b y sb at_b) first exact (map key_of avps)
+      by (exact_each k.listed (other_in k x.rules) (others_in k x.rules) x.rules y.rules found (sound_rules da a x sa at_a) (sound_rules db b y sb at_b) first exact (map key_of avps)
       (stand_placed who x.rules (map key_of avps) keep.0) (omega (arith, same, room)))
     where
       keep : IsSentKeys who k.listed x.rules (max_body - way) (map key_of avps)
@@ -93,15 +93,15 @@ module _ (da db : Dictionary) (who : Sends) (u : Unknown) (made : Facts) (facts 
       room : total k.listed (map key_of avps) ≤ max_body - way
       room = keep.1
 
-      same : total (price k.listed k.other x.rules) (map key_of avps) ≡ total k.listed (map key_of avps)
+      same : total (price k.listed (other_in k x.rules) x.rules) (map key_of avps) ≡ total k.listed (map key_of avps)
       same = stand_price da who made.lengths x.rules (map key_of avps) keep.0
 
-      first : FirstIsShortest k.other k.others x.rules y.rules
+      first : FirstIsShortest (other_in k x.rules) (others_in k x.rules) x.rules y.rules
       first =
-          subst (λ (rs : List DRule). FirstIsShortest k.other k.others rs y.rules) (rules_of_def da a x at_a)
-          (subst (λ (rs : List DRule). FirstIsShortest k.other k.others (rules_in da a) rs) (rules_of_def db b y at_b) (shortest a b))
+          subst (λ (rs : List DRule). FirstIsShortest (other_in k rs) (others_in k rs) rs y.rules) (rules_of_def da a x at_a)
+          (subst (λ (rs : List DRule). FirstIsShortest (other_in k (rules_in da a)) (others_in k (rules_in da a)) (rules_in da a) rs) (rules_of_def db b y at_b) (shortest a b))
 
-      by : Placed y.rules (map key_of avps) ⊎ ((line : LevelLine) × Contains found line × Shows (price k.listed k.other x.rules) x.rules y.rules (map key_of avps) line)
+      by : Placed y.rules (map key_of avps) ⊎ ((line : LevelLine) × Contains found line × Shows (price k.listed (other_in k x.rules) x.rules) x.rules y.rules (map key_of avps) line)
           → Placed y.rules (map key_of avps)
       by (inl placed) = placed
       by (inr (line, inside, (shows, le))) = absurd (refuses line inside (omega (arith, same, le, room, fits)) shows)

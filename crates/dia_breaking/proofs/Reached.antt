@@ -29,14 +29,14 @@ use Rattle.dia_breaking.specs.declared.keys.Own.{Own}
 use Rattle.dia_breaking.specs.declared.keys.Recording.{Recording}
 use Rattle.dia_breaking.specs.declared.levels.LevelCost.{LevelCost}
 use Rattle.dia_breaking.specs.Exits.{AreOutlooks, IsOutlook, exit_by}
-use Rattle.dia_breaking.specs.Lengths.{Costs, costs_by, listed_length, other_length}
-use Rattle.dia_breaking.specs.LevelCosts.{IsCostOf, PicksShortest, cost_of, with_listed}
+use Rattle.dia_breaking.specs.Lengths.{Costs, costs_by, listed_length, other_in, other_length, others_in}
+use Rattle.dia_breaking.specs.LevelCosts.{IsCostOf, PicksShortest, cost_in, with_listed}
 use Rattle.dia_breaking.specs.Meanings.{IsReadAsOther}
 use Rattle.dia_breaking.specs.Nodes.{exits_in, node_in}
 use Rattle.dia_breaking.specs.Taken.{AreGroups}
 use Rattle.dia_breaking.specs.Recording.{IsExactlyOwn, IsExactRecording, is_news}
 use Rattle.dia_breaking.specs.Sides.{sides}
-use Rattle.dia_breaking.proofs.SentPrices.{stand_placed, stand_price}
+use Rattle.dia_breaking.proofs.SentPrices.{other_open, stand_open, stand_placed, stand_price}
 use Rattle.dia_breaking.proofs.LevelCosts.{cost_of as is_cost, one_is_shortest}
 use Rattle.dia_breaking.proofs.Lists.{all_in, contains_at}
 use Rattle.dia_breaking.proofs.SentKeys.{sent_of}
@@ -68,7 +68,7 @@ module _ (da db : Dictionary) (who : Sends) (u : Unknown) (lengths : List ℕ) (
   k = costs_by da who lengths others
 
   abbrev pub cost : List DRule → LevelCost
-  cost rules = cost_of listed other others rules
+  cost rules = cost_in k rules
 
   -- ---- places
 
@@ -163,7 +163,7 @@ module _ (da db : Dictionary) (who : Sends) (u : Unknown) (lengths : List ℕ) (
 
   -- by a cost of levels that is no more than they take
   module _ (rules : List DRule) (exits : Exits) (c : LevelCost) (listed_are : exits.listed.items ≡ filter_map (exit_by recording listed c) rules) (beside_is : exits.beside ≡ c.beside)
-      (costs : IsCostOf listed other rules c) (keys : List Key) (stand : StandAsSent who rules keys) (room : total listed keys ≤ max_body) (key : Key) (comes : Contains keys key) where
+      (costs : IsCostOf listed (other_in k rules) rules c) (keys : List Key) (stand : StandAsSent who rules keys) (room : total listed keys ≤ max_body) (key : Key) (comes : Contains keys key) where
     abbrev pub Led : ℕ → Type 0
     Led place = (inner : ℕ) × Leads (map node_in outlooks) (exits_in exits) place inner × (inner ≤ total listed keys)
 
@@ -195,10 +195,11 @@ module _ (da db : Dictionary) (who : Sends) (u : Unknown) (lengths : List ℕ) (
     by_wildcard e q p none le =
         let least = costs.others_within key e keys (stand_placed who rules keys stand) comes in
         let alike = stand_price da who lengths rules keys stand in
+        let own : other_in k rules key ≡ other key = other_open da who lengths rules key (stand_open who rules keys stand key comes e) in
         let is_other : p.outlook.other ≡ other q = p.has.other_is ∙ ap other p.outlook_key in (
           exits.beside + p.outlook.other,
           By_wildcard (node_in p.outlook) (into_map node_in outlooks p.place p.outlook p.is_outlook) (unlisted q p none) refl,
-          omega (arith, least, alike, beside_is, is_other, room, le),
+          omega (arith, least, alike, own, beside_is, is_other, room, le),
         )
 
     pub led : (p : Kept key) → Led p.place
@@ -208,10 +209,11 @@ module _ (da db : Dictionary) (who : Sends) (u : Unknown) (lengths : List ℕ) (
         by true e = by_rule p e
         by false e = by_wildcard e key p e (omega arith)
 
-  pub costs_at : IsDictionary da → PicksShortest da db k → (def : ℕ) (x : PlainDefinition) → slice_get (definitions da) def ≡ Some x → IsCostOf listed other x.rules (cost x.rules)
+  pub costs_at : IsDictionary da → PicksShortest da db k → (def : ℕ) (x : PlainDefinition) → slice_get (definitions da) def ≡ Some x
+      → IsCostOf listed (other_in k x.rules) x.rules (cost x.rules)
   costs_at sa shortest def x at =
       let rules : rules_in da def ≡ x.rules = ap (λ (o : Option PlainDefinition). option_map_or (λ (y : PlainDefinition). y.rules) o []) at in
-      subst (λ (rs : List DRule). IsCostOf listed other rs (cost rs)) rules
-      (is_cost listed other others (rules_in da def) (cost (rules_in da def))
+      subst (λ (rs : List DRule). IsCostOf listed (other_in k rs) rs (cost rs)) rules
+      (is_cost listed (other_in k (rules_in da def)) (others_in k (rules_in da def)) (rules_in da def) (cost (rules_in da def))
       (subst AreRules (sym rules) (all_in (λ (def : PlainDefinition). AreRules def.rules) (definitions da) x sa.rules (contains_at (definitions da) def x at)))
-      (one_is_shortest other others (rules_in da def) db (shortest def)) refl refl)
+      (one_is_shortest (other_in k (rules_in da def)) (others_in k (rules_in da def)) (rules_in da def) db (shortest def)) refl refl)

@@ -8,7 +8,7 @@ use Rattle.dia_book.specs.Dictionary.{DictEntry, Dictionary, IsDictionary, entry
 use Rattle.dia_book.proofs.Members.{at_Contains, into_filter}
 use Rattle.dia_valid.proofs.Members.{IsIn, contains_in, in_left, in_right, some_of}
 use Rattle.dia_terms.specs.declared.Sends.{Sends}
-use Rattle.dia_terms.specs.declared.Sends.TheVariants.{Any, Known, Listed}
+use Rattle.dia_terms.specs.declared.Sends.TheVariants.{Any, Known, Filled, Listed}
 use Rattle.dia_breaking_shortest.proofs.Strangers.{key_at, key_in, at_most}
 use Rattle.dia_breaking.specs.SentKeys.{AreSentInOrder, AreSentKeys, HasKeys, entry_keys, keys_of_b_alone}
 use Rattle.dia_breaking.proofs.Lists.{contains_at}
@@ -72,6 +72,13 @@ sent_of_known da db keys are = record {
   strange = λ any. absurd (let bad : Known ≡ Any = any in cc);
 }
 
+pub sent_of_filled : (da db : Dictionary) (keys : List Key) → keys ≡ entry_keys da → AreSentKeys da db Filled keys
+sent_of_filled da db keys are = record {
+  own = has_all da keys are;
+  others = λ any. absurd (let bad : Filled ≡ Any = any in cc);
+  strange = λ any. absurd (let bad : Filled ≡ Any = any in cc);
+}
+
 pub sent_of_listed : (da db : Dictionary) (keys : List Key) → keys ≡ entry_keys da → AreSentKeys da db Listed keys
 sent_of_listed da db keys are = record {
   own = has_all da keys are;
@@ -82,6 +89,7 @@ sent_of_listed da db keys are = record {
 pub sent_of : (da db : Dictionary) (who : Sends) (keys : List Key) → AreSentInOrder da db who keys → AreSentKeys da db who keys
 sent_of da db Any keys in_order = sent_of_any da db keys in_order
 sent_of da db Known keys in_order = sent_of_known da db keys in_order
+sent_of da db Filled keys in_order = sent_of_filled da db keys in_order
 sent_of da db Listed keys in_order = sent_of_listed da db keys in_order
 
 -- ---- the keys that a dictionary doesn't know, of the entries of another

@@ -14,12 +14,13 @@ use Rattle.dia_valid.specs.Valid.{is_listed}
 use Rattle.dia_valid.specs.Rules.{rules_in}
 use Rattle.dia_valid.proofs.Members.{taken, in_at, at_in, in_contains, contains_in, any_in, IsIn}
 use Rattle.dia_terms.specs.declared.Sends.{Sends}
-use Rattle.dia_terms.specs.declared.Sends.TheVariants.{Any, Known, Listed}
+use Rattle.dia_terms.specs.declared.Sends.TheVariants.{Any, Known, Filled, Listed}
+use Rattle.dia_breaking_sites.specs.Sent.{is_open}
 use Rattle.dia_breaking_shortest.specs.Floors.{shortest_head}
 use Rattle.dia_breaking_shortest.proofs.Strangers.{key_in}
 use Rattle.dia_breaking_levels.specs.Levels.{FirstIsShortest}
 use Rattle.dia_breaking_levels.specs.LevelTests.{too_long, is_outside}
-use Rattle.dia_breaking.specs.Lengths.{AreExactlyOthers, costs_by, length_of_entry, listed_length, other_length}
+use Rattle.dia_breaking.specs.Lengths.{AreExactlyOthers, costs_by, length_of_entry, listed_length, other_length, prices_where}
 use Rattle.dia_breaking.specs.LevelCosts.{PicksShortest}
 
 -- ---- keys that a dictionary doesn't know
@@ -170,8 +171,17 @@ module _ (da db : Dictionary) (lengths : List ℕ) (others : List Key) (sa : IsD
   by_listed : FirstIsShortest (other_length da Listed lengths) others (rules_in da x) (rules_in db y)
   by_listed = λ key la lb. found_most (other_length da Listed lengths) (λ k. omega arith) (find test others)
 
+by_sender : (da db : Dictionary) (who : Sends) (lengths : List ℕ) (others : List Key) → IsDictionary da → IsDictionary db → AreExactlyOthers da db who lengths others
+    → (x y : ℕ) → FirstIsShortest (other_length da who lengths) others (rules_in da x) (rules_in db y)
+by_sender da db Any lengths others sa sb are x y = by_any da db lengths others sa sb x y are
+by_sender da db Known lengths others sa sb are x y = by_known da db lengths others sa sb x y are
+by_sender da db Filled lengths others sa sb are x y = by_known da db lengths others sa sb x y are
+by_sender da db Listed lengths others sa sb are x y = by_listed da db lengths others sa sb x y
+
 pub first_is_shortest : (da db : Dictionary) (who : Sends) (lengths : List ℕ) (others : List Key) → IsDictionary da → IsDictionary db → AreExactlyOthers da db who lengths others
     → PicksShortest da db (costs_by da who lengths others)
-first_is_shortest da db Any lengths others sa sb are x y = by_any da db lengths others sa sb x y are
-first_is_shortest da db Known lengths others sa sb are x y = by_known da db lengths others sa sb x y are
-first_is_shortest da db Listed lengths others sa sb are x y = by_listed da db lengths others sa sb x y
+first_is_shortest da db who lengths others sa sb are x y = by (is_open who (rules_in da x))
+  where
+    by : (b : Bool) → FirstIsShortest (prices_where b (costs_by da who lengths others)).other (prices_where b (costs_by da who lengths others)).others (rules_in da x) (rules_in db y)
+    by true = by_sender da db who lengths others sa sb are x y
+    by false = λ key la lb. omega arith

@@ -23,7 +23,7 @@ use Rattle.dia_breaking_sites.specs.Selection.{max_body}
 use Rattle.dia_breaking_avps.specs.Sent.{group_of}
 use Rattle.dia_breaking_levels.specs.declared.line.Line.{Line as LevelLine}
 use Rattle.dia_breaking_levels.specs.declared.line.Part.{Part}
-use Rattle.dia_breaking_levels.specs.Chosen.{IsLineLevel, least_parts, reads_between}
+use Rattle.dia_breaking_levels.specs.Chosen.{IsLineLevel, least_parts}
 use Rattle.dia_breaking_levels.specs.Levels.{ShowsAt}
 use Rattle.dia_breaking_levels.specs.Showing.{part_keys}
 use Rattle.dia_breaking_levels.proofs.FloorFacts.{rules_in_are}
@@ -46,10 +46,10 @@ use Rattle.dia_breaking.specs.declared.readings.Reading.{Reading}
 use Rattle.dia_breaking.specs.declared.start.Start.{Start}
 use Rattle.dia_breaking.specs.Exits.{IsOutlook, IsInnerOrNone}
 use Rattle.dia_breaking.specs.Headers.{HasHead, head_in}
-use Rattle.dia_breaking.specs.Lengths.{Costs}
+use Rattle.dia_breaking.specs.Lengths.{Costs, other_in, others_in}
 use Rattle.dia_breaking.specs.Listing.{Recorded, Basis, IsListing, IsWalkFrom, basis_of, command_levels, group_levels, header_causes, header_line, header_lines, level_lines, lines_in, lines_of, numbers, own_lines, start_of, subject, records}
 use Rattle.dia_breaking.specs.Corrected.{BreaksOnceCorrected, is_of_header}
-use Rattle.dia_breaking.specs.Messages.{AreParts, IsAlone, IsInnermost, IsMessageFor, IsShowingLevel, Stock, command_head, group_number, header_bytes, levels_on, read_number, sent_number, shortest_avp}
+use Rattle.dia_breaking.specs.Messages.{AreParts, IsAlone, IsInnermost, IsMessageFor, IsShowingLevel, Stock, command_head, group_number, header_bytes, levels_on, read_number, reads_in, sent_number, shortest_avp}
 use Rattle.dia_breaking.specs.Nodes.{node_in}
 use Rattle.dia_breaking.specs.Orders.{of_each}
 use Rattle.dia_breaking.specs.Outlooks.{group_rules}
@@ -60,7 +60,7 @@ use Rattle.dia_breaking.specs.Sites.{command_site, command_sites, group_site, gr
 use Rattle.dia_breaking.specs.TheLines.{AreFacts, AreIfRoom, AreLevels, AreLinesBetween, AreLinesOf, AreTheLines, Facts, HasLevelLines, IsCommandLevel, IsStartOf, costs_in}
 use Rattle.dia_breaking.specs.RecordedMessages.{BreaksAsRecorded}
 use Rattle.dia_breaking.specs.Words.{head_at, path_to}
-use Rattle.dia_breaking.proofs.CostsOfSides.{AreCostsOf, have_listed, have_other, one_costs}
+use Rattle.dia_breaking.proofs.CostsOfSides.{AreCostsOf, have_listed, have_other_in, one_costs}
 use Rattle.dia_breaking.proofs.Lists.{all_in, contains_at}
 use Rattle.dia_breaking.proofs.LookedHeaders.{IsLookedAt, looked_at, reading_sent}
 use Rattle.dia_breaking.proofs.Outlooks.{rules_of_group}
@@ -343,23 +343,24 @@ level_lines_shown s k c sites lines line recorded bytes sa sb few all costs insi
     costs_are = one_costs s all.made k.costs all.facts costs
 
     shown : (parts : List Part)
-        → IsLineLevel (reads_between (rules_in s.sender here.sent) (rules_in s.receiver here.read) k.costs.listed k.costs.other k.costs.others) recorded parts
+        → IsLineLevel (reads_in k.costs (rules_in s.sender here.sent) (rules_in s.receiver here.read)) recorded parts
         → ShowsAt (rules_in s.sender here.sent) (rules_in s.receiver here.read) (part_keys parts) recorded.reason recorded.key
     shown parts level =
         let made = all.made in
         let costs_here = costs_in s made in
-        let moved : IsLineLevel (reads_between (rules_in s.sender here.sent) (rules_in s.receiver here.read) costs_here.listed costs_here.other costs_here.others) recorded parts =
-        subst (λ (q : Costs). IsLineLevel (reads_between (rules_in s.sender here.sent) (rules_in s.receiver here.read) q.listed q.other q.others) recorded parts) costs_are level in
-        lines_shown costs_here.listed costs_here.other costs_here.others (rules_in s.sender here.sent) (rules_in s.receiver here.read) here.found recorded parts
-        (rules_in_are s.sender here.sent sa) (rules_in_are s.receiver here.read sb) (have_listed s.sender s.sends made.lengths) (have_other s.sender s.sends made.lengths) here.exact
+        let rules = rules_in s.sender here.sent in
+        let moved : IsLineLevel (reads_in costs_here rules (rules_in s.receiver here.read)) recorded parts =
+        subst (λ (q : Costs). IsLineLevel (reads_in q rules (rules_in s.receiver here.read)) recorded parts) costs_are level in
+        lines_shown costs_here.listed (other_in costs_here rules) (others_in costs_here rules) rules (rules_in s.receiver here.read) here.found recorded parts
+        (rules_in_are s.sender here.sent sa) (rules_in_are s.receiver here.read sb) (have_listed s.sender s.sends made.lengths) (have_other_in s.sender s.sends made.lengths made.others rules) here.exact
         (contains_in here.found recorded here.inside) moved
 
     of_parts : (head : Head) (inner : List ℕ) (parts : List Part) → AreParts s k c here.site.place here.sent (causes.Level recorded) parts → inner ≡ parts_bytes (shortest_avp s k) parts
         → bytes ≡ header_bytes head line (slice_get (path_to sites line.site) 0) ++ levels_on s k c line.length (path_to sites line.site) inner → ShowsRecorded s k c sites line recorded bytes
     of_parts head inner parts made inner_is bytes_are =
         let numbers = read_by_numbers s c here.site.place here.sent here.read here.is_sent here.is_read in
-        let shows = shown parts (subst (λ (o : Option ℕ). MatchOption o (parts ≡ least_parts k.costs.others (rules_in s.sender here.sent))
-        (λ other. IsLineLevel (reads_between (rules_in s.sender here.sent) (rules_in s.receiver other) k.costs.listed k.costs.other k.costs.others) recorded parts)) here.is_read made) in
+        let shows = shown parts (subst (λ (o : Option ℕ). MatchOption o (parts ≡ least_parts (others_in k.costs (rules_in s.sender here.sent)) (rules_in s.sender here.sent))
+        (λ other. IsLineLevel (reads_in k.costs (rules_in s.sender here.sent) (rules_in s.receiver other)) recorded parts)) here.is_read made) in
         record {
           head = head;
           site = here.site;

@@ -4,7 +4,7 @@ use Rattle.std.specs.Prelude.{MatchOption, slice_get}
 use Rattle.dia_valid.specs.Rules.{rules_in}
 use Rattle.dia_breaking_levels.specs.declared.line.Line.{Line as LevelLine}
 use Rattle.dia_breaking_levels.specs.declared.line.Part.{Part}
-use Rattle.dia_breaking_levels.specs.Chosen.{IsLineLevel, least_parts, reads_between}
+use Rattle.dia_breaking_levels.specs.Chosen.{IsLineLevel, least_parts}
 use Rattle.dia_breaking_levels.proofs.SomeLineLevel.{some_level}
 use Rattle.dia_breaking_shortest.specs.Bytes.{parts_bytes}
 use Rattle.dia_breaking.specs.declared.heads.Head.{Head}
@@ -13,27 +13,31 @@ use Rattle.dia_breaking.specs.declared.line.Cause.TheVariants as causes
 use Rattle.dia_breaking.specs.declared.line.Line.{Line}
 use Rattle.dia_breaking.specs.declared.line.Place.{Place}
 use Rattle.dia_breaking.specs.declared.line.Site.{Site}
+use Rattle.dia_breaking.specs.Lengths.{others_in}
 use Rattle.dia_breaking.specs.Messages.{AreParts, IsAlone, IsInnermost, IsLineMessage, IsMessageFor, Shown, Stock}
-use Rattle.dia_breaking.specs.Messages.{command_head, header_bytes, level_round, levels_on, read_number, sent_number, shortest_avp, shown_avp}
+use Rattle.dia_breaking.specs.Messages.{command_head, header_bytes, level_round, levels_on, read_number, reads_in, sent_number, shortest_avp, shown_avp}
 use Rattle.dia_breaking.specs.Sides.{Sides}
 use Rattle.dia_breaking.specs.Words.{path_to}
 
 module _ (s : Sides) (k : Stock) (c : ℕ) where
-  some_line_level : (def : ℕ) (line : LevelLine) (read : Option ℕ) → (parts : List Part) × MatchOption read (parts ≡ least_parts k.costs.others (rules_in s.sender def))
-      (λ other. IsLineLevel (reads_between (rules_in s.sender def) (rules_in s.receiver other) k.costs.listed k.costs.other k.costs.others) line parts)
-  some_line_level def line None = (least_parts k.costs.others (rules_in s.sender def), refl)
-  some_line_level def line (Some other) = some_level (reads_between (rules_in s.sender def) (rules_in s.receiver other) k.costs.listed k.costs.other k.costs.others) line
+  abbrev least_here : ℕ → List Part
+  least_here def = least_parts (others_in k.costs (rules_in s.sender def)) (rules_in s.sender def)
+
+  some_line_level : (def : ℕ) (line : LevelLine) (read : Option ℕ) → (parts : List Part) × MatchOption read (parts ≡ least_here def)
+      (λ other. IsLineLevel (reads_in k.costs (rules_in s.sender def) (rules_in s.receiver other)) line parts)
+  some_line_level def line None = (least_here def, refl)
+  some_line_level def line (Some other) = some_level (reads_in k.costs (rules_in s.sender def) (rules_in s.receiver other)) line
 
   some_parts : (place : Place) (def : ℕ) (cause : Cause) → (parts : List Part) × AreParts s k c place def cause parts
-  some_parts place def causes.Command = (least_parts k.costs.others (rules_in s.sender def), refl)
-  some_parts place def causes.Application = (least_parts k.costs.others (rules_in s.sender def), refl)
-  some_parts place def (causes.Proxiable set) = (least_parts k.costs.others (rules_in s.sender def), refl)
+  some_parts place def causes.Command = (least_here def, refl)
+  some_parts place def causes.Application = (least_here def, refl)
+  some_parts place def (causes.Proxiable set) = (least_here def, refl)
   some_parts place def (causes.Level line) = some_line_level def line (read_number s c place)
-  some_parts place def (causes.Unknown key m) = (least_parts k.costs.others (rules_in s.sender def), refl)
-  some_parts place def (causes.MBit key m) = (least_parts k.costs.others (rules_in s.sender def), refl)
-  some_parts place def (causes.Format key found) = (least_parts k.costs.others (rules_in s.sender def), refl)
-  some_parts place def (causes.LevelAsLeaf key) = (least_parts k.costs.others (rules_in s.sender def), refl)
-  some_parts place def (causes.Meaning key) = (least_parts k.costs.others (rules_in s.sender def), refl)
+  some_parts place def (causes.Unknown key m) = (least_here def, refl)
+  some_parts place def (causes.MBit key m) = (least_here def, refl)
+  some_parts place def (causes.Format key found) = (least_here def, refl)
+  some_parts place def (causes.LevelAsLeaf key) = (least_here def, refl)
+  some_parts place def (causes.Meaning key) = (least_here def, refl)
 
   some_alone : (place : Place) (cause : Cause) (number : Option ℕ) → (bytes : List ℕ)
       × MatchOption number (bytes ≡ []) (λ def. (parts : List Part) × AreParts s k c place def cause parts × (bytes ≡ parts_bytes (shortest_avp s k) parts))

@@ -11,7 +11,7 @@ use Rattle.dia_breaking_data.specs.declared.short_data.Witness.{Witness}
 use Rattle.dia_breaking_data.specs.Shortest.{witness_bytes}
 use Rattle.dia_book.specs.Dictionary.{entry_of}
 use Rattle.dia_terms.specs.declared.Sends.{Sends}
-use Rattle.dia_terms.specs.declared.Sends.TheVariants.{Any, Known, Listed}
+use Rattle.dia_terms.specs.declared.Sends.TheVariants.{Any, Known, Filled, Listed}
 use Rattle.dia_valid.proofs.Members.{contains_in, in_left, in_right}
 use Rattle.dia_breaking_avps.specs.Sent.{HasThisM}
 use Rattle.dia_breaking_levels.specs.LevelTests.{too_long}
@@ -97,6 +97,7 @@ module _ (s : Sides) (k : Stock) (is : IsLeastOf s.sender s.sends k.least) where
       unlisted : (who : Sends) → unlisted_length who key < too_long → unknown_length who key < too_long
       unlisted Any short = short
       unlisted Known short = short
+      unlisted Filled short = short
       unlisted Listed short = short
 
       entry : (n : Option ℕ) → option_map_or (λ m. min (max m 8) too_long) n too_long < too_long → option_map_or (λ m. m) n too_long < too_long

@@ -18,7 +18,7 @@ use Rattle.dia_breaking.specs.declared.own_breaks.OwnBreaks.{OwnBreaks}
 use Rattle.dia_breaking.specs.declared.start.Start.{Start}
 use Rattle.dia_breaking.specs.Exits.{AreOutlooks}
 use Rattle.dia_breaking.specs.Headers.{HasHead, head_in}
-use Rattle.dia_breaking.specs.Lengths.{AreEntryLengths, AreExactlyOthers, listed_length, other_length, costs, costs_by}
+use Rattle.dia_breaking.specs.Lengths.{AreEntryLengths, AreExactlyOthers, listed_length, costs_by}
 use Rattle.dia_breaking.specs.Listing.{Recorded, Basis, Listed, IsListingOf, basis_of, lines_in}
 use Rattle.dia_breaking.specs.Nodes.{node_in}
 use Rattle.dia_breaking.specs.OwnBreaks.{AreOwnBreaks}
@@ -56,8 +56,8 @@ record IsMadeOf (listed : Listed) (da db : Dictionary) (who : Sends) (u : Unknow
   pub own : List OwnBreaks
   pub start : Start
   pub is_recording : IsExactRecording (sides da db who u) recording
-  pub are_outlooks : AreOutlooks da db recording (costs (listed_length da who lengths) (other_length da who lengths) others) outlooks
-  pub have_lines : All (HasLevelLines da db (costs (listed_length da who lengths) (other_length da who lengths) others)) outlooks
+  pub are_outlooks : AreOutlooks da db recording (costs_by da who lengths others) outlooks
+  pub have_lines : All (HasLevelLines da db (costs_by da who lengths others)) outlooks
   pub are_own : AreOwnBreaks (sides da db who u) (listed_length da who lengths) recording.own.items own
   pub head_is : HasHead da c start.head
   pub is_start : IsStartOf da db recording (costs_by da who lengths others) c start
@@ -99,10 +99,9 @@ module _ (listed : Listed) (listed_alike : IsListedAlike listed) (da db : Dictio
     one_making : IsMadeOf listed da db who u c sites recorded lengths others → IsMadeOf listed da db who u c more lines lengths others → (sites ≡ more) × (recorded ≡ lines)
     one_making is are =
         let floor = listed_length da who lengths in
-        let other = other_length da who lengths in
         let recording = one_recording da db who u is.recording are.recording is.is_recording are.is_recording in
         let keys = ap (λ (all : List Own). map (λ (own : Own). own.key) all) recording.0 in
-        let outlooks = one_list_of_outlooks (costs floor other others) is.recording are.recording recording.1 da db is.outlooks are.outlooks
+        let outlooks = one_list_of_outlooks (costs_by da who lengths others) is.recording are.recording recording.1 da db is.outlooks are.outlooks
         (is.are_outlooks.0 ∙ keys ∙ sym are.are_outlooks.0) is.are_outlooks.1 are.are_outlooks.1 is.have_lines are.have_lines in
         let own = all_alike da db who u floor are.own is.own (are.are_own.keys ∙ sym keys ∙ sym is.are_own.keys) are.are_own.each is.are_own.each in
         let head = one_head da c is.start.head are.start.head is.head_is are.head_is in

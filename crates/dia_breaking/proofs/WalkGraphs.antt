@@ -13,7 +13,7 @@ use Rattle.dia_book.specs.Dictionary.{Dictionary, entry_of}
 use Rattle.dia_book.proofs.Members.{at_Contains, at_filter_map, at_map, into_map}
 use Rattle.dia_terms.specs.declared.Unknown.{Unknown}
 use Rattle.dia_terms.specs.declared.Sends.{Sends}
-use Rattle.dia_terms.specs.declared.Sends.TheVariants.{Any, Known, Listed}
+use Rattle.dia_terms.specs.declared.Sends.TheVariants.{Any, Known, Filled, Listed}
 use Rattle.dia_valid.proofs.Members.{IsIn, in_at}
 use Rattle.dia_breaking_shortest.specs.Floors.{shortest_head}
 use Rattle.dia_breaking_levels.specs.LevelTests.{too_long, capped, many, base_length, least_filler}
@@ -25,7 +25,7 @@ use Rattle.dia_breaking.specs.declared.keys.Own.{Own}
 use Rattle.dia_breaking.specs.declared.keys.Recording.{Recording}
 use Rattle.dia_breaking.specs.declared.levels.LevelCost.{LevelCost}
 use Rattle.dia_breaking.specs.Exits.{AreExits, AreOutlooks, IsInner, IsInnerOrNone, IsOutlook, exit_by}
-use Rattle.dia_breaking.specs.Lengths.{Costs, costs_by, length_of_entry, listed_length, other_length}
+use Rattle.dia_breaking.specs.Lengths.{Costs, costs_by, length_of_entry, listed_length, other_in, other_length, others_in}
 use Rattle.dia_breaking.specs.LevelCosts.{with_listed}
 use Rattle.dia_breaking.specs.Nodes.{exits_in, level_in, node_in}
 use Rattle.dia_breaking.specs.Outlooks.{group_rules}
@@ -56,6 +56,11 @@ listed_bounds d Known lengths key = by (entry_of d key)
     by : (o : Option ℕ) → (8 ≤ option_map_or (length_of_entry lengths) o too_long) × (option_map_or (length_of_entry lengths) o too_long ≤ too_long)
     by None = (omega arith, omega arith)
     by (Some e) = (of_entry_least d lengths e, of_entry_most d lengths e)
+listed_bounds d Filled lengths key = by (entry_of d key)
+  where
+    by : (o : Option ℕ) → (8 ≤ option_map_or (length_of_entry lengths) o too_long) × (option_map_or (length_of_entry lengths) o too_long ≤ too_long)
+    by None = (omega arith, omega arith)
+    by (Some e) = (of_entry_least d lengths e, of_entry_most d lengths e)
 listed_bounds d Listed lengths key = by (entry_of d key)
   where
     by : (o : Option ℕ) → (8 ≤ option_map_or (length_of_entry lengths) o too_long) × (option_map_or (length_of_entry lengths) o too_long ≤ too_long)
@@ -66,6 +71,7 @@ listed_bounds d Listed lengths key = by (entry_of d key)
 other_more : (d : Dictionary) (who : Sends) (lengths : List ℕ) (key : Key) → listed_length d who lengths key ≤ other_length d who lengths key
 other_more d Any lengths key = omega arith
 other_more d Known lengths key = omega arith
+other_more d Filled lengths key = omega arith
 other_more d Listed lengths key = (listed_bounds d Listed lengths key).1
 
 -- ---- a least level with an AVP
@@ -122,7 +128,7 @@ module _ (da db : Dictionary) (who : Sends) (u : Unknown) (lengths : List ℕ) (
   with_own : (rules : List DRule) (rule : DRule) (q : Key) → IsIn rule rules → rule.key ≡ Some q → length_of q ≤ with_listed (level_cost rules) rule (length_of q)
   with_own rules rule q i is =
       let most = (listed_bounds da who lengths q).1 in
-      let filler = least_filler (other_length da who lengths) others rules in
+      let filler = least_filler (other_in costs rules) (others_in costs rules) rules in
       with_more (level_cost rules) rule (length_of q) most (λ some.
       let here = base_part length_of filler rules rule i in
       let own : many rule.min (option_map_or length_of rule.key filler) ≡ many rule.min (length_of q) = ap (λ (o : Option Key). many rule.min (option_map_or length_of o filler)) is in

@@ -3,7 +3,7 @@ use Rattle.std.specs.Prelude.{◌≡◌, ◌≢◌, ⊤, ℕ, ◌-◌, nat_le, B
 use Rattle.dia_book.specs.Dictionary.{Dictionary, PlainDefinition, definitions}
 use Rattle.dia_terms.specs.declared.Levels.TheVariants as levels
 use Rattle.dia_terms.specs.declared.Sends.{Sends}
-use Rattle.dia_terms.specs.declared.Sends.TheVariants.{Any, Known, Listed}
+use Rattle.dia_terms.specs.declared.Sends.TheVariants.{Any, Known, Filled, Listed}
 use Rattle.dia_valid.specs.Valid.{IsValid, IsValidOf}
 use Rattle.dia_breaking_sites.specs.Sent.{own_policy, Breaks}
 use Rattle.dia_valid.specs.Inclusion.{PlainTable, IsIncluded}
@@ -17,10 +17,11 @@ use Rattle.dia_breaking.specs.declared.line.Standing.TheVariants.{Confirmed, Unc
 abbrev pub IsConfirmedBy : Sends → Sides → List ℕ → ℕ → Type 0
 IsConfirmedBy Any s bytes c = Breaks s.sender s.receiver Any s.unknown bytes c
 IsConfirmedBy Known s bytes c = Breaks s.sender s.receiver Known s.unknown bytes c
+IsConfirmedBy Filled s bytes c = IsValidOf s.sender (own_policy Filled) levels.Any bytes c × (¬ IsValid s.receiver s.unknown levels.Any bytes)
 IsConfirmedBy Listed s bytes c = IsValidOf s.sender (own_policy Listed) levels.Any bytes c × (¬ IsValid s.receiver s.unknown levels.Any bytes)
 
--- the message is valid for the sender, as one of the command c, and not for the receiver. Where all AVPs have to be listed, it is
--- only known to be valid for a sender that sends what it knows
+-- the message is valid for the sender, as one of the command c, and not for the receiver. Where AVPs have to be listed, it is only
+-- known to be valid for a sender that sends what it knows
 abbrev pub IsConfirmed : Sides → List ℕ → ℕ → Type 0
 IsConfirmed s bytes c = IsConfirmedBy s.sends s bytes c
 

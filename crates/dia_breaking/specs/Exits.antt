@@ -14,7 +14,7 @@ use Rattle.dia_breaking.specs.declared.exits.Outlook.{Outlook}
 use Rattle.dia_breaking.specs.declared.keys.Recording.{Recording}
 use Rattle.dia_breaking.specs.declared.levels.LevelCost.{LevelCost}
 use Rattle.dia_breaking.specs.Lengths.{Costs}
-use Rattle.dia_breaking.specs.LevelCosts.{cost_of, with_listed}
+use Rattle.dia_breaking.specs.LevelCosts.{cost_in, with_listed}
 use Rattle.dia_breaking.specs.Outlooks.{group_rules}
 use Rattle.dia_breaking.specs.Taken.{AreGroups}
 
@@ -24,9 +24,9 @@ exit_by recording listed cost rule = option_and_then (λ key. option_map (λ pla
 
 -- those of the rules, in their order, with the costs of their levels
 pub record AreExits (recording : Recording) (k : Costs) (rules : List DRule) (exits : Exits) : Type 0 where
-  pub base : exits.base ≡ (cost_of k.listed k.other k.others rules).base
-  pub listed_are : exits.listed.items ≡ filter_map (exit_by recording k.listed (cost_of k.listed k.other k.others rules)) rules
-  pub beside : exits.beside ≡ (cost_of k.listed k.other k.others rules).beside
+  pub base : exits.base ≡ (cost_in k rules).base
+  pub listed_are : exits.listed.items ≡ filter_map (exit_by recording k.listed (cost_in k rules)) rules
+  pub beside : exits.beside ≡ (cost_in k rules).beside
 
 -- of a group of both: what its least level takes, and where A's levels lead
 pub record IsInner (da : Dictionary) (recording : Recording) (k : Costs) (key : Key) (inner : Inner) : Type 0 where

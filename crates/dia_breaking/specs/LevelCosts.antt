@@ -9,7 +9,7 @@ use Rattle.dia_book.specs.Dictionary.{Dictionary}
 use Rattle.dia_breaking_levels.specs.Levels.{FirstIsShortest, IsWithinAllWith}
 use Rattle.dia_breaking_levels.specs.LevelTests.{too_long, capped, price, least_filler, least_length}
 use Rattle.dia_breaking.specs.declared.levels.LevelCost.{LevelCost}
-use Rattle.dia_breaking.specs.Lengths.{Costs}
+use Rattle.dia_breaking.specs.Lengths.{Costs, other_in, others_in}
 
 -- with an AVP of the rule's key, which is this long
 abbrev pub with_listed : LevelCost → DRule → ℕ → ℕ
@@ -19,9 +19,11 @@ with_listed cost rule length = if option_eq nat_eq rule.max (Some 0) || nat_le t
 abbrev pub with_other : LevelCost → ℕ → ℕ
 with_other cost length = capped (cost.beside + length)
 
--- what a least level takes besides an AVP by this wildcard, where the least by it has the length `filler`
+-- what a least level takes besides an AVP by this wildcard, where the least by it has the length `filler`; there is no such level
+-- where none comes by it
 abbrev pub beside_of : ℕ → ℕ → DRule → ℕ
-beside_of base filler wild = if option_eq nat_eq wild.max (Some 0) || nat_le too_long base then too_long else if nat_lt 0 wild.min then base - filler else base
+beside_of base filler wild =
+    if option_eq nat_eq wild.max (Some 0) || nat_le too_long base || nat_le too_long filler then too_long else if nat_lt 0 wild.min then base - filler else base
 
 -- no level with an AVP of a key is shorter than the cost says
 pub record IsCostOf (listed other : Key → ℕ) (rules : List DRule) (cost : LevelCost) : Type 0 where
@@ -35,6 +37,10 @@ cost_from base filler rules = record { base = base; beside = option_map_or (besi
 abbrev pub cost_of : (listed other : Key → ℕ) → List Key → List DRule → LevelCost
 cost_of listed other others rules = cost_from (least_length listed other others rules) (least_filler other others rules) rules
 
+-- of levels by these rules
+abbrev pub cost_in : Costs → List DRule → LevelCost
+cost_in k rules = cost_of k.listed (other_in k rules) (others_in k rules) rules
+
 -- where two rules sets are those of the dictionaries, the first key that neither lists has a shortest AVP
 abbrev pub PicksShortest : Dictionary → Dictionary → Costs → Type 0
-PicksShortest da db k = (x y : ℕ) → FirstIsShortest k.other k.others (rules_in da x) (rules_in db y)
+PicksShortest da db k = (x y : ℕ) → FirstIsShortest (other_in k (rules_in da x)) (others_in k (rules_in da x)) (rules_in da x) (rules_in db y)

@@ -36,3 +36,4 @@ pub mod Words
 pub mod Gaps
 pub mod Runs
 pub mod ShownLines
+pub mod Refusals

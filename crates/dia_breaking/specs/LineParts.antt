@@ -205,7 +205,7 @@ accepted_by_reason levels.TooManyOthers bounds = Some (counts_of bounds)
 accepted_by_reason levels.Order bounds = None
 
 abbrev pub level_sent : Sides → (Key → ℕ) → ℕ → Option Site → LevelLine → Option PlainAmount
-level_sent s other c site line = option_and_then (λ at. sent_by_reason line.reason (sent_bounds other (sent_rules s.sender c at.place) line.key)) site
+level_sent s other c site line = option_and_then (λ at. sent_by_reason line.reason (sent_bounds s.sends other (sent_rules s.sender c at.place) line.key)) site
 
 abbrev pub level_accepted : Sides → ℕ → Option Site → LevelLine → Option PlainAmount
 level_accepted s c site line = option_and_then (λ at. accepted_by_reason line.reason (accepted_bounds (accepted_rules s c at.place) line.key)) site

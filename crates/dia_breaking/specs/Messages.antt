@@ -12,11 +12,12 @@ use Rattle.dia_book.specs.declared.Class.{Class}
 use Rattle.dia_book.specs.declared.Class.TheVariants as classes
 use Rattle.dia_book.specs.declared.MRule.{MRule}
 use Rattle.dia_book.specs.declared.MRule.TheVariants.{Must, MustNot, Any}
+use Rattle.dia_book.specs.declared.DRule.{DRule}
 use Rattle.dia_book.specs.Dictionary.{Dictionary, entry_of, group_place, selected}
 use Rattle.dia_valid.specs.Rules.{rules_in}
 use Rattle.dia_breaking_sites.specs.Sent.{AreBytes}
 use Rattle.dia_breaking_levels.specs.declared.line.Part.{Part}
-use Rattle.dia_breaking_levels.specs.Chosen.{IsLineLevel, least_parts, parts_with, reads_between}
+use Rattle.dia_breaking_levels.specs.Chosen.{IsLineLevel, Reads, least_parts, parts_with, reads_between}
 use Rattle.dia_breaking_shortest.specs.declared.lookup.Least.{Least}
 use Rattle.dia_breaking_shortest.specs.Bytes.{avp_bytes, head_bytes, least_avp, length_bytes, parts_bytes}
 use Rattle.dia_breaking_shortest.specs.Floors.{shortest_head}
@@ -27,7 +28,7 @@ use Rattle.dia_breaking.specs.declared.line.Line.{Line}
 use Rattle.dia_breaking.specs.declared.line.Place.{Place}
 use Rattle.dia_breaking.specs.declared.line.Place.TheVariants as places
 use Rattle.dia_breaking.specs.declared.line.Site.{Site}
-use Rattle.dia_breaking.specs.Lengths.{Costs}
+use Rattle.dia_breaking.specs.Lengths.{Costs, other_in, others_in}
 use Rattle.dia_breaking.specs.Meanings.{m_rule_in}
 use Rattle.dia_breaking.specs.Sides.{Sides}
 use Rattle.dia_breaking.specs.Words.{head_at, is_command, path_to}
@@ -114,7 +115,7 @@ read_number s c (places.Group key outer) = group_number s.receiver key
 
 -- the shortest level of the sender's definition that has an AVP of the key; nothing, where there is no definition
 abbrev pub parts_round : Sides → Stock → ℕ → Place → Key → List Part
-parts_round s k c place key = option_map_or (λ def. parts_with k.costs.others (rules_in s.sender def) key) (sent_number s c place) []
+parts_round s k c place key = option_map_or (λ def. parts_with (others_in k.costs (rules_in s.sender def)) (rules_in s.sender def) key) (sent_number s c place) []
 
 -- how many parts precede the first of the key
 abbrev pub parts_before : Key → List Part → ℕ
@@ -161,11 +162,15 @@ levels_on s k c size (site ∷ path) bytes = levels_from s k c size site path by
 
 -- ---- the level of the line
 
+-- how the levels of the sender's rules are read by the receiver's
+abbrev pub reads_in : Costs → List DRule → List DRule → Reads
+reads_in k sent accepted = reads_between sent accepted k.listed (other_in k sent) (others_in k sent)
+
 -- a level that shows by itself what its line reports, and else the least level
 abbrev pub AreParts : Sides → Stock → ℕ → Place → ℕ → Cause → List Part → Type 0
-AreParts s k c place def (causes.Level line) parts = MatchOption (read_number s c place) (parts ≡ least_parts k.costs.others (rules_in s.sender def))
-    (λ other. IsLineLevel (reads_between (rules_in s.sender def) (rules_in s.receiver other) k.costs.listed k.costs.other k.costs.others) line parts)
-AreParts s k c place def cause parts = parts ≡ least_parts k.costs.others (rules_in s.sender def)
+AreParts s k c place def (causes.Level line) parts = MatchOption (read_number s c place) (parts ≡ least_parts (others_in k.costs (rules_in s.sender def)) (rules_in s.sender def))
+    (λ other. IsLineLevel (reads_in k.costs (rules_in s.sender def) (rules_in s.receiver other)) line parts)
+AreParts s k c place def cause parts = parts ≡ least_parts (others_in k.costs (rules_in s.sender def)) (rules_in s.sender def)
 
 -- the bytes of such a level; none, where the sender has no definition of it
 abbrev pub IsAlone : Sides → Stock → ℕ → Place → Cause → List ℕ → Type 0

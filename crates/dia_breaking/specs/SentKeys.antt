@@ -3,7 +3,7 @@ use Rattle.std.specs.Prelude.{◌≡◌, ◌≤◌, Bool, not, List, [], ◌∷�
 use Rattle.dia_wire.specs.declared.Key.{Key}
 use Rattle.dia_book.specs.Dictionary.{Dictionary, entry_of}
 use Rattle.dia_terms.specs.declared.Sends.{Sends}
-use Rattle.dia_terms.specs.declared.Sends.TheVariants.{Any, Known, Listed}
+use Rattle.dia_terms.specs.declared.Sends.TheVariants.{Any, Known, Filled, Listed}
 
 -- neither dictionary knows the key
 abbrev pub IsStrange : Dictionary → Dictionary → Key → Type 0
@@ -43,4 +43,5 @@ keys_of_b_alone da db = filter (is_unknown da) (entry_keys db)
 abbrev pub AreSentInOrder : Dictionary → Dictionary → Sends → List Key → Type 0
 AreSentInOrder da db Any keys = (stranger : Key) × IsStranger da db stranger × (keys ≡ (entry_keys da ++ keys_of_b_alone da db) ++ stranger ∷ [])
 AreSentInOrder da db Known keys = keys ≡ entry_keys da
+AreSentInOrder da db Filled keys = keys ≡ entry_keys da
 AreSentInOrder da db Listed keys = keys ≡ entry_keys da

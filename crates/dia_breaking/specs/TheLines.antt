@@ -23,7 +23,7 @@ use Rattle.dia_breaking.specs.declared.start.Start.{Start}
 use Rattle.dia_breaking.specs.Exits.{AreExits, AreOutlooks}
 use Rattle.dia_breaking.specs.Free.{AreValidWhereFree}
 use Rattle.dia_breaking.specs.Headers.{AreApps, HasHead}
-use Rattle.dia_breaking.specs.Lengths.{Costs, costs_by, AreEntryLengths, AreExactlyOthers}
+use Rattle.dia_breaking.specs.Lengths.{Costs, costs_by, other_in, others_in, AreEntryLengths, AreExactlyOthers}
 use Rattle.dia_breaking.specs.Listing.{Recorded, Listed, IsListingOf, basis_of, lines_of, records}
 use Rattle.dia_breaking.specs.Corrected.{AreValidOnceCorrected}
 use Rattle.dia_breaking.specs.Nodes.{exits_in}
@@ -38,7 +38,7 @@ use Rattle.dia_breaking.specs.Recording.{IsExactRecording}
 
 -- how levels of one definition break the rules of another, exactly
 abbrev pub AreLinesOf : Costs → List DRule → List DRule → List LevelLine → Type 0
-AreLinesOf k sent accepted lines = AreLevelLines k.listed k.other k.others sent accepted lines
+AreLinesOf k sent accepted lines = AreLevelLines k.listed (other_in k sent) (others_in k sent) sent accepted lines
 
 -- how the levels of the group break B's rules, if it is one for both
 abbrev pub HasLevelLines : Dictionary → Dictionary → Costs → Outlook → Type 0

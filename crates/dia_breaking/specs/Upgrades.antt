@@ -7,6 +7,7 @@ use Rattle.dia_breaking.specs.declared.start.Start.{Start}
 use Rattle.dia_breaking.specs.declared.line.Line.{Line}
 use Rattle.dia_breaking.specs.declared.sites.Numbers.{Numbers}
 use Rattle.dia_breaking_ways.specs.declared.graph.Walk.{Walk}
+use Rattle.dia_breaking.specs.Lengths.{Costs}
 use Rattle.dia_breaking.specs.Listing.{Basis, Recorded, basis_of, lines_of}
 use Rattle.dia_breaking.specs.Messages.{Stock, stock}
 use Rattle.dia_breaking.specs.OwnBreaks.{HaveDataBreaks, KeepsData}
@@ -28,6 +29,10 @@ module _ {A B : Type 0} {a : Reads A} {b : Reads B} where
   -- what messages are made of
   abbrev pub stock_of : Upgrade A B a b → Stock
   stock_of up = stock up.lengths.least (costs_of up.lengths)
+
+  -- what AVPs and levels of A take
+  abbrev pub costs_in : Upgrade A B a b → Costs
+  costs_in up = costs_of up.lengths
 
   -- what an AVP of a key takes where a wildcard lets it in
   abbrev pub other_length_of : Upgrade A B a b → Key → ℕ

@@ -1,8 +1,8 @@
 -- The words of a line: `PATH: REASON SUBJECT: DETAIL`. A is the sender's dictionary, B the receiver's.
 use Rattle.std.specs.Prelude.{◌≡◌, ℕ, zero, suc, Bool, true, false, not, ◌&&◌, ◌==◌, nat_lt, nat_le, if◌then◌else◌, List, [], ◌∷◌, ◌++◌, length, codes, string_bytes}
-use Rattle.std.specs.Prelude.{Option, Some, None, unwrap_or, option_and_then, slice_get}
+use Rattle.std.specs.Prelude.{Option, Some, None, option_and_then, slice_get}
 use Rattle.std.specs.List.{flat_map}
-use Rattle.std.specs.Option.{option_map, option_map_or, option_or}
+use Rattle.std.specs.Option.{option_map, option_map_or}
 use Rattle.std.specs.declared.string.String.{String}
 use Rattle.std.specs.Borrow.{Bor}
 use Rattle.std.specs.Fmt.{decimal}
@@ -12,10 +12,13 @@ use Rattle.dia_data.specs.Plain.{PlainFormat, plain_format, word_of}
 use Rattle.dia_breaking.specs.Runs.{canonical, lacking_of, ranges_in}
 use Rattle.dia_book.specs.declared.DRule.{DRule}
 use Rattle.dia_book.specs.Dictionary.{Dictionary, definitions, groups, selected}
+use Rattle.dia_terms.specs.declared.Sends.{Sends}
 use Rattle.dia_terms.specs.declared.Unknown.{Unknown}
 use Rattle.dia_terms.specs.declared.Unknown.TheVariants.{Kept, Refused}
 use Rattle.dia_valid.specs.Valid.{known}
 use Rattle.dia_valid.specs.Rules.{rule_of, rules_in, wildcard_of}
+use Rattle.dia_breaking_sites.specs.Sent.{is_open}
+use Rattle.dia_names.specs.Names as names
 use Rattle.dia_breaking_levels.specs.declared.line.Line.{Line as LevelLine}
 use Rattle.dia_breaking_levels.specs.declared.line.Reason.{Reason}
 use Rattle.dia_breaking_levels.specs.declared.line.Reason.TheVariants.{Missing, TooMany, NotAllowed, NotAllowedOther, MissingOthers, TooManyOthers, Order}
@@ -41,12 +44,9 @@ Writes old new text = string_bytes new ≡ string_bytes old ++ text
 
 -- ---- names
 
-abbrev pub name_in : Dictionary → Key → Option (List ℕ)
-name_in d key = option_map (λ e. e.name) (known d key)
-
--- the name in A, else in B, else `AVP`
+-- the name in A, else in B, or `CODE:VENDOR` where A has another AVP of that name, else `AVP`
 abbrev pub avp_name : Sides → Key → List ℕ
-avp_name s key = unwrap_or (option_or (name_in s.sender key) (name_in s.receiver key)) (codes "AVP")
+avp_name s key = names.avp_name s.sender s.receiver key
 
 -- `AVP` also where the wildcard counts
 abbrev pub subject_name : Sides → Option Key → List ℕ
@@ -101,11 +101,12 @@ abbrev pub wild_bounds : Bool → DRule → Bounds
 wild_bounds true wildcard = record { min = 0; max = wildcard.max }
 wild_bounds false wildcard = no_bounds
 
--- how often A's rules let the AVP occur, or all that they don't list; `other` is what an AVP takes that the wildcard lets in
-abbrev pub sent_bounds : (Key → ℕ) → List DRule → Option Key → Bounds
-sent_bounds other rules None = bounds_of (wildcard_of rules)
-sent_bounds other rules (Some key) =
-    option_map_or rule_bounds (rule_of rules key) (option_map_or (wild_bounds (nat_lt (other key) too_long)) (wildcard_of rules) no_bounds)
+-- how often A's rules let the AVP occur that A's side sends, or all that they don't list; `other` is what an AVP takes that comes
+-- by a wildcard
+abbrev pub sent_bounds : Sends → (Key → ℕ) → List DRule → Option Key → Bounds
+sent_bounds who other rules None = bounds_of (wildcard_of rules)
+sent_bounds who other rules (Some key) =
+    option_map_or rule_bounds (rule_of rules key) (option_map_or (wild_bounds (is_open who rules && nat_lt (other key) too_long)) (wildcard_of rules) no_bounds)
 
 -- how often B's rules do
 abbrev pub accepted_bounds : List DRule → Option Key → Bounds
@@ -148,7 +149,7 @@ counts_text Order sent accepted following = codes "behind " ++ following ++ code
 
 abbrev pub level_detail : Sides → (Key → ℕ) → ℕ → LevelLine → Place → List ℕ
 level_detail s other c line place =
-    counts_text line.reason (sent_bounds other (sent_rules s.sender c place) line.key) (accepted_bounds (accepted_rules s c place) line.key) (subject_name s line.following)
+    counts_text line.reason (sent_bounds s.sends other (sent_rules s.sender c place) line.key) (accepted_bounds (accepted_rules s c place) line.key) (subject_name s line.following)
 
 abbrev pub level_text : Sides → (Key → ℕ) → ℕ → Option Site → LevelLine → List ℕ
 level_text s other c site line = reason_word line.reason ++ codes " " ++ subject_name s line.key ++ codes ": "

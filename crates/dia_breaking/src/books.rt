@@ -9,7 +9,7 @@ ghost use Rattle.dia_valid.specs.Rules.{rule_of, rules_in, wildcard_of};
 ghost use Rattle.dia_breaking_avps.specs.Sent.{group_of};
 ghost use Rattle.dia_breaking.specs.Meanings.{m_rule_in};
 ghost use Rattle.dia_breaking.specs.Messages.{group_number};
-ghost use Rattle.dia_breaking.specs.Words.{format_in, name_in};
+ghost use Rattle.dia_breaking.specs.Words.{format_in};
 
 use dia_book::{Book, Class, DRule, DefId, Format, Key, MRule, Slot};
 
@@ -31,13 +31,6 @@ pub(crate) fn command_of<B: Book>(book: &B, code: u32, class: Class, app: u32) -
     ensures selected { result ≡ selected (B.meaning book.now) code class app }
 {
     book.select(code, class, app)
-}
-
-pub(crate) fn name_of<B: Book>(book: &B, key: Key) -> Option<&str>
-    ensures { option_map (λ name. name.now) result ≡ name_in (B.meaning book.now) key }
-{
-    let entry = book.avp(key)?;
-    Some(book.entry_name(entry))
 }
 
 pub(crate) fn format_of<B: Book>(book: &B, key: Key) -> Option<&Format>

@@ -32,8 +32,8 @@ pub const MOST_CHECKED_TOGETHER: u64 = 1 << 26;
 impl<'a, A: Book, B: Book> Upgrade<'a, A, B> {
     /// The message of a line (`IsLineMessage`), where it has the length that the line reports, and checks under both dictionaries
     /// show that it is valid under A, as one of the command, and not under B; for a line that isn't about the header also not
-    /// with its header fixed for B's definition. None, where the line's message doesn't break so. For `Listed` the check requires
-    /// that A knows its AVPs, not that A's rules list them. The only error is an allocation failure.
+    /// with its header fixed for B's definition. None, where the line's message doesn't break so. For `Filled` and
+    /// `Listed` the check requires that A knows its AVPs, not that A's rules list them. The only error is an allocation failure.
     pub fn confirmed_message(
         &self,
         alloc: Global,
@@ -200,6 +200,7 @@ fn own_policy(sends: Sends) -> Unknown
     match sends {
         Sends::Any => Unknown::Kept,
         Sends::Known => Unknown::Refused,
+        Sends::Filled => Unknown::Refused,
         Sends::Listed => Unknown::Refused,
     }
 }

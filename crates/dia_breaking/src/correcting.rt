@@ -17,6 +17,7 @@ use crate::heads::{allows, head_of};
 use crate::line::{Breaks, Cause, Line, Place, Site};
 use crate::upgrade::Upgrade;
 use dia_book::{Book, Class, DefId, Pxy};
+use dia_breaking_data::big_endian;
 use dia_wire::{COMMAND_ERROR, COMMAND_PROXIABLE, COMMAND_REQUEST, Header, split_message};
 use std::alloc::{AllocError, Global};
 
@@ -160,7 +161,7 @@ fn with_header(alloc: Global, bytes: &[u8], header: &Header) -> Result<Vec<u8>, 
     corrected.extend_from_slice(&bytes[..4])?;
     corrected.push(header.flags)?;
     corrected.extend_from_slice(&bytes[5..8])?;
-    corrected.extend_from_slice(&header.app.to_be_bytes())?;
+    corrected.extend_from_slice(&big_endian(header.app))?;
     corrected.extend_from_slice(&bytes[12..])?;
     Ok(corrected)
 }

@@ -14,7 +14,7 @@ use crate::keys::Recording;
 use crate::lengths::Lengths;
 use crate::levels::LevelCost;
 use dia_book::{Book, DRule, DefId, Key};
-use dia_breaking_levels::{Costs, Line as LevelLine, level_lines};
+use dia_breaking_levels::Line as LevelLine;
 use dia_breaking_shortest::shortest_head;
 use std::alloc::{AllocError, Global};
 
@@ -39,7 +39,8 @@ impl Exits {
         requires { def < length (definitions (sender_in lengths.now)) }
         ensures { IfOk result (AreExits recording.now (costs_of lengths.now) (rules_in (sender_in lengths.now) def)) }
     {
-        let cost = LevelCost::new(lengths.book, def, lengths);
+        let level = lengths.of_level(def);
+        let cost = LevelCost::new(lengths.book, def, &level);
         let listed = exits_by(
             alloc,
             rules_of(lengths.book, def),
@@ -159,6 +160,6 @@ fn inner_of<A: Book, B: Book>(
     Ok(Some(Inner {
         least: lengths.listed(key).saturating_sub(shortest_head(key)),
         exits: Exits::of(alloc, a_def, recording, lengths)?,
-        lines: level_lines(alloc, lengths.book, a_def, b, b_def, lengths)?,
+        lines: lengths.lines_between(alloc, a_def, b, b_def)?,
     }))
 }

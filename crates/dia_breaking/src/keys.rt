@@ -49,7 +49,7 @@ fn own_of<A: Book, B: Book>(a: &A, b: &B, key: Key, sends: Sends, unknown: Unkno
     }
 }
 
-fn breaks_alone(breaks: AvpBreaks) -> bool
+pub(crate) fn breaks_alone(breaks: AvpBreaks) -> bool
     ensures { (result ≡ false) ↔ IsSilent breaks }
 {
     match breaks.head {
@@ -92,6 +92,7 @@ fn sent_keys<A: Book, B: Book>(
     match sends {
         Sends::Any => with_others(keys, a, b),
         Sends::Known => Ok(keys),
+        Sends::Filled => Ok(keys),
         Sends::Listed => Ok(keys),
     }
 }

@@ -1,16 +1,20 @@
 //! The lengths of the AVPs that A's side sends.
-ghost use Rattle.std.specs.Prelude.{◌≡◌, ◌⊎◌, ◌∷◌, [], IfOk, IsSome, MatchBool};
+ghost use Rattle.std.specs.Prelude.{◌≡◌, ◌<◌, ◌⊎◌, ◌∷◌, [], IfOk, IsSome, MatchBool, length};
 ghost use Rattle.std.specs.List.Sorted.{IsPermutation, IsNonDecreasingBy, IsStableByKey};
 ghost use Rattle.std.specs.Ordering.{nat_cmp};
-ghost use Rattle.dia_book.specs.Dictionary.{entry_of};
+ghost use Rattle.dia_book.specs.Dictionary.{definitions, entry_of};
+ghost use Rattle.dia_breaking_sites.specs.Sent.{is_open};
+ghost use Rattle.dia_valid.specs.Rules.{rules_in};
 ghost use Rattle.dia_breaking_shortest.specs.Exact.{AreExact};
 ghost use Rattle.dia_breaking_shortest.specs.Floors.{AreFloors};
 ghost use Rattle.dia_breaking.specs.Lengths.{AreEntryLengths, AreExactlyOthers, IsLeastFor, listed_length};
 ghost use Rattle.dia_breaking.specs.SentKeys.{IsStrange, IsStranger, entry_keys};
 
-use dia_book::{Book, Key};
-use dia_breaking_levels::{Costs, TOO_LONG};
+use crate::books::rules_of;
+use dia_book::{Book, DefId, Key};
+use dia_breaking_levels::{Costs, Line as LevelLine, TOO_LONG, level_lines};
 use dia_breaking_shortest::{Least, least_lengths, shortest_head};
+use dia_breaking_sites::is_open;
 use dia_terms::Sends;
 use std::alloc::{AllocError, Global};
 
@@ -22,14 +26,17 @@ pub(crate) struct Lengths<'a, A: Book> {
     pub least: Least,
     /// The length of a shortest AVP of each entry.
     pub entries: Vec<u64>,
-    /// Keys that a wildcard lets in. The first of them that no rule lists is one of a shortest AVP.
+    /// Keys of AVPs that are sent by a wildcard. The first of them that no rule lists is one of a shortest AVP.
     pub others: Vec<Key>,
     ghost floors: { ∥ AreFloors (A.meaning book.now) sends (listed_length (A.meaning book.now) sends entries.items) ∥₁ },
     ghost exact: { ∥ IsLeastFor (A.meaning book.now) sends least entries.items ∥₁ },
 }
 
 impl<'a, A: Book> Lengths<'a, A> {
-    ghost use Rattle.dia_breaking.specs.Sender.{sender_in};
+    ghost use Rattle.dia_breaking.specs.LevelCosts.{PicksShortest};
+    ghost use Rattle.dia_breaking.specs.Lengths.{prices_in};
+    ghost use Rattle.dia_breaking.specs.Sender.{costs_of, prices_of, sender_in};
+    ghost use Rattle.dia_breaking.specs.TheLines.{AreLinesOf};
 
     /// The lengths of A's entries.
     pub fn new<B: Book>(alloc: Global, book: &'a A, b: &B, sends: Sends) -> Result<Self, AllocError>
@@ -52,10 +59,74 @@ impl<'a, A: Book> Lengths<'a, A> {
             others,
         })
     }
+
+    /// The length of a shortest AVP of a key that a rule lists.
+    pub fn listed(&self, key: Key) -> u64
+        ensures { result ≡ (costs_of self.now).listed key }
+    {
+        length_of(self.book, self.sends, &self.entries, key)
+    }
+
+    /// The length of a shortest AVP of a key that comes by a wildcard by which AVPs are sent.
+    pub fn other(&self, key: Key) -> u64
+        ensures { result ≡ (costs_of self.now).other key }
+    {
+        match self.sends {
+            Sends::Any => length_of(self.book, Sends::Any, &self.entries, key),
+            Sends::Known => length_of(self.book, Sends::Known, &self.entries, key),
+            Sends::Filled => length_of(self.book, Sends::Filled, &self.entries, key),
+            Sends::Listed => TOO_LONG,
+        }
+    }
+
+    /// The lengths in the levels of a definition.
+    pub fn of_level(&self, def: DefId) -> LevelLengths<'_, 'a, A>
+        requires { def < length (definitions (sender_in self.now)) }
+        ensures { prices_of result ≡ prices_in (costs_of self.now) (rules_in (sender_in self.now) def) }
+    {
+        LevelLengths {
+            lengths: self,
+            is_open: self.is_open(def),
+        }
+    }
+
+    /// How the levels of a definition break the rules of one of B.
+    pub fn lines_between<B: Book>(
+        &self,
+        alloc: Global,
+        def: DefId,
+        b: &B,
+        other: DefId,
+    ) -> Result<Vec<LevelLine>, AllocError>
+        requires first { def < length (definitions (sender_in self.now)) }
+        requires second { other < length (definitions (B.meaning b.now)) }
+        requires shortest { PicksShortest (sender_in self.now) (B.meaning b.now) (costs_of self.now) }
+        ensures { IfOk result (λ lines. AreLinesOf (costs_of self.now)
+            (rules_in (sender_in self.now) def) (rules_in (B.meaning b.now) other) lines.items) }
+    {
+        let level = self.of_level(def);
+        level_lines(alloc, self.book, def, b, other, &level)
+    }
+
+    /// Whether A's side sends AVPs by the wildcard of a definition.
+    pub fn is_open(&self, def: DefId) -> bool
+        requires { def < length (definitions (sender_in self.now)) }
+        ensures { result ≡ is_open self.now.sends (rules_in (sender_in self.now) def) }
+    {
+        is_open(self.sends, rules_of(self.book, def))
+    }
 }
 
-/// The keys that a wildcard lets in. Where it lets in any, no AVP is shorter than one that neither dictionary knows, without
-/// vendor; where it lets in what A knows, the shortest come first; and where each AVP has to be listed, it lets in none.
+/// The lengths of the AVPs in the levels of a definition of A.
+#[derive(Drop)]
+pub(crate) struct LevelLengths<'l, 'a, A: Book> {
+    pub lengths: &'l Lengths<'a, A>,
+    /// Whether A's side sends AVPs by the definition's wildcard.
+    pub is_open: bool,
+}
+
+/// The keys of AVPs that are sent by a wildcard. Where any are, none is shorter than one that neither dictionary knows, without
+/// vendor; where those that A knows are, the shortest come first; and where each AVP has to be listed, there are none.
 fn others_of<A: Book, B: Book>(
     alloc: Global,
     a: &A,
@@ -68,6 +139,7 @@ fn others_of<A: Book, B: Book>(
     match sends {
         Sends::Any => only(alloc, stranger(a, b)),
         Sends::Known => in_order(alloc, a, entries),
+        Sends::Filled => in_order(alloc, a, entries),
         Sends::Listed => Ok(Vec::new(alloc)),
     }
 }
@@ -92,6 +164,7 @@ fn length_of<A: Book>(book: &A, sends: Sends, entries: &[u64], key: Key) -> u64
         None => match sends {
             Sends::Any => shortest_head(key),
             Sends::Known => TOO_LONG,
+            Sends::Filled => TOO_LONG,
             Sends::Listed => TOO_LONG,
         },
     }
@@ -156,28 +229,32 @@ fn lengths_of_entries<A: Book>(
     Ok(lengths)
 }
 
-impl<'a, A: Book> Costs for Lengths<'a, A> {
-    ghost use Rattle.dia_breaking.specs.Sender.{costs_of};
+impl<'l, 'a, A: Book> Costs for LevelLengths<'l, 'a, A> {
+    ghost use Rattle.dia_breaking.specs.Sender.{prices_of};
 
-    ghost listed_length = { λ lengths. (costs_of lengths).listed };
+    ghost listed_length = { λ level. (prices_of level).listed };
 
-    ghost other_length = { λ lengths. (costs_of lengths).other };
+    ghost other_length = { λ level. (prices_of level).other };
 
-    ghost other_keys = { λ lengths. lengths.others.items };
+    ghost other_keys = { λ level. (prices_of level).others };
 
     fn listed(&self, key: Key) -> u64 {
-        length_of(self.book, self.sends, &self.entries, key)
+        self.lengths.listed(key)
     }
 
     fn other(&self, key: Key) -> u64 {
-        match self.sends {
-            Sends::Any => length_of(self.book, Sends::Any, &self.entries, key),
-            Sends::Known => length_of(self.book, Sends::Known, &self.entries, key),
-            Sends::Listed => TOO_LONG,
+        if self.is_open {
+            self.lengths.other(key)
+        } else {
+            TOO_LONG
         }
     }
 
     fn others(&self) -> &[Key] {
-        &self.others
+        if self.is_open {
+            &self.lengths.others
+        } else {
+            &[]
+        }
     }
 }

@@ -1,5 +1,5 @@
 //! The words of lines about how often AVPs occur in a level, and in which order.
-ghost use Rattle.std.specs.Prelude.{◌≡◌, ◌<◌, ◌++◌, [], OnOk, IfSome, codes, length, nat_lt};
+ghost use Rattle.std.specs.Prelude.{◌≡◌, ◌<◌, ◌++◌, ◌&&◌, [], OnOk, IfSome, codes, length, nat_lt};
 ghost use Rattle.std.specs.Prelude.{option_and_then};
 ghost use Rattle.std.specs.Option.{option_map_or};
 ghost use Rattle.dia_book.specs.Dictionary.{definitions, selected};
@@ -17,7 +17,7 @@ use crate::heads::head_of;
 use crate::line::{Place, Site};
 use crate::upgrade::Upgrade;
 use dia_book::{Book, DRule, DefId, Key};
-use dia_breaking_levels::{Costs, Line as LevelLine, Reason, TOO_LONG};
+use dia_breaking_levels::{Line as LevelLine, Reason, TOO_LONG};
 use std::alloc::AllocError;
 
 impl<'a, A: Book, B: Book> Upgrade<'a, A, B> {
@@ -75,7 +75,7 @@ impl<'a, A: Book, B: Book> Upgrade<'a, A, B> {
     /// list.
     pub(crate) fn sent_bounds(&self, command: DefId, place: Place, key: Option<Key>) -> Bounds
         requires { command < length (definitions (sides_of self.now).sender) }
-        ensures { result ≡ sent_bounds (other_length_of self.now) (sent_rules (sides_of self.now).sender command place) key }
+        ensures { result ≡ sent_bounds (sides_of self.now).sends (other_length_of self.now) (sent_rules (sides_of self.now).sender command place) key }
     {
         match self.sent_definition(command, place) {
             Some(def) => self.sent_by(def, key),
@@ -85,7 +85,7 @@ impl<'a, A: Book, B: Book> Upgrade<'a, A, B> {
 
     fn sent_by(&self, def: DefId, key: Option<Key>) -> Bounds
         requires { def < length (definitions (sides_of self.now).sender) }
-        ensures { result ≡ sent_bounds (other_length_of self.now) (rules_in (sides_of self.now).sender def) key }
+        ensures { result ≡ sent_bounds (sides_of self.now).sends (other_length_of self.now) (rules_in (sides_of self.now).sender def) key }
     {
         let wildcard = wildcard_of(self.lengths.book, def);
         let Some(key) = key else {
@@ -93,15 +93,17 @@ impl<'a, A: Book, B: Book> Upgrade<'a, A, B> {
         };
         match rule_of(self.lengths.book, def, key) {
             Some(rule) => Bounds::of(rule),
-            None => self.sent_by_wildcard(wildcard, key),
+            None => self.sent_by_wildcard(self.lengths.is_open(def), wildcard, key),
         }
     }
 
-    fn sent_by_wildcard(&self, wildcard: Option<DRule>, key: Key) -> Bounds
-        ensures { result ≡ option_map_or (wild_bounds (nat_lt (other_length_of self.now key) too_long)) wildcard no_bounds }
+    fn sent_by_wildcard(&self, is_open: bool, wildcard: Option<DRule>, key: Key) -> Bounds
+        ensures { result ≡ option_map_or (wild_bounds (is_open && nat_lt (other_length_of self.now key) too_long)) wildcard no_bounds }
     {
         match wildcard {
-            Some(wildcard) => Bounds::of_wildcard(self.lengths.other(key) < TOO_LONG, wildcard),
+            Some(wildcard) => {
+                Bounds::of_wildcard(is_open && self.lengths.other(key) < TOO_LONG, wildcard)
+            }
             None => Bounds::none(),
         }
     }

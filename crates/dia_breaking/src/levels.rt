@@ -52,11 +52,12 @@ impl LevelCost {
     }
 }
 
-/// What a least level takes besides an AVP that this wildcard lets in. A shortest one that it lets in has the length `filler`.
+/// What a least level takes besides an AVP that this wildcard lets in. A shortest one that it lets in has the length `filler`; it
+/// lets in none where that is `TOO_LONG`.
 fn beside(base: u64, filler: u64, wild: &DRule) -> u64
     ensures { result ≡ beside_of base filler wild.now }
 {
-    if wild.max == Some(0) || TOO_LONG <= base {
+    if wild.max == Some(0) || TOO_LONG <= base || TOO_LONG <= filler {
         TOO_LONG
     } else if 0 < wild.min {
         base.saturating_sub(filler)

@@ -32,6 +32,7 @@ mod own_lines;
 mod parts;
 mod parts_of_lines;
 mod readings;
+mod refusals;
 mod sent_numbers;
 mod shown;
 mod sites;

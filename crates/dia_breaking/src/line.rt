@@ -77,8 +77,8 @@ pub enum Cause {
 /// The status of a line.
 #[derive(Clone, Copy, PartialEq, Eq)]
 pub enum Standing {
-    /// Its message was checked: it is valid under A, and B's side refuses it. For `Sends::Listed` it isn't checked that A's rules
-    /// list each of its AVPs.
+    /// Its message was checked: it is valid under A, and B's side refuses it. For `Sends::Filled` and `Sends::Listed` it
+    /// isn't checked that A's side sends each of its AVPs where it is.
     Confirmed,
     /// Its message wasn't checked: it is too long to be checked with the others, or it is that of a meaning.
     Unchecked,

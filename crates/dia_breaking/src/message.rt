@@ -1,8 +1,11 @@
 //! The message of a line.
 ghost use Rattle.std.specs.Prelude.{◌≡◌, ◌<◌, ◌++◌, IfOk, IfSome, None, OnOk, length, reverse, slice_get};
 ghost use Rattle.dia_book.specs.Dictionary.{definitions};
+ghost use Rattle.dia_valid.specs.Rules.{rules_in};
+ghost use Rattle.dia_breaking_levels.specs.Chosen.{IsLineLevel, least_parts, parts_with};
+ghost use Rattle.dia_breaking.specs.Lengths.{others_in};
 ghost use Rattle.dia_breaking.specs.Messages.{AreParts, IsAlone, IsInnermost, IsLineMessage, IsMessageFor, IsShowingLevel};
-ghost use Rattle.dia_breaking.specs.Messages.{command_head, group_head, level_round, levels_on, parts_round};
+ghost use Rattle.dia_breaking.specs.Messages.{command_head, group_head, level_round, levels_on, parts_round, reads_in};
 ghost use Rattle.dia_breaking.specs.Nested.{fronts, group_front, group_rest, rests, site_front, site_rest};
 ghost use Rattle.dia_breaking.specs.Upgrades.{sides_of, stock_of};
 
@@ -14,7 +17,7 @@ use crate::shown::ShownAvp;
 use crate::upgrade::Upgrade;
 use crate::words::{is_command, site_at};
 use dia_book::{Book, DefId, Key};
-use dia_breaking_levels::{Part, level_least, level_with, line_level};
+use dia_breaking_levels::{Line as LevelLine, Part, level_least, level_with, line_level};
 use dia_breaking_shortest::{push_head, shortest_head};
 use std::alloc::{AllocError, Global};
 
@@ -188,9 +191,19 @@ impl<'a, A: Book, B: Book> Upgrade<'a, A, B> {
             ≡ parts_round (sides_of self.now) (stock_of self.now) command place key) }
     {
         match self.sent_definition(command, place) {
-            Some(def) => level_with(alloc, self.lengths.book, def, &self.lengths, key),
+            Some(def) => self.parts_with(alloc, def, key),
             None => Ok(Vec::new(alloc)),
         }
+    }
+
+    /// The shortest level of a definition of A that has an AVP of the key.
+    fn parts_with(&self, alloc: Global, def: DefId, key: Key) -> Result<Vec<Part>, AllocError>
+        requires { def < length (definitions (sides_of self.now).sender) }
+        ensures { IfOk result (λ parts. parts.items ≡ parts_with
+            (others_in (stock_of self.now).costs (rules_in (sides_of self.now).sender def)) (rules_in (sides_of self.now).sender def) key) }
+    {
+        let level = self.lengths.of_level(def);
+        level_with(alloc, self.lengths.book, def, &level, key)
     }
 
     /// The level of the line.
@@ -281,20 +294,40 @@ impl<'a, A: Book, B: Book> Upgrade<'a, A, B> {
             command place def cause.now parts.items) }
     {
         let Cause::Level(line) = cause else {
-            return level_least(alloc, self.lengths.book, def, &self.lengths);
+            return self.least_parts(alloc, def);
         };
         match self.accepted_definition(command, place) {
-            Some(other) => line_level(
-                alloc,
-                self.lengths.book,
-                def,
-                self.b,
-                other,
-                &self.lengths,
-                line,
-            ),
-            None => level_least(alloc, self.lengths.book, def, &self.lengths),
+            Some(other) => self.line_parts(alloc, def, other, line),
+            None => self.least_parts(alloc, def),
         }
+    }
+
+    /// The least level of a definition of A.
+    fn least_parts(&self, alloc: Global, def: DefId) -> Result<Vec<Part>, AllocError>
+        requires { def < length (definitions (sides_of self.now).sender) }
+        ensures { IfOk result (λ parts. parts.items ≡ least_parts
+            (others_in (stock_of self.now).costs (rules_in (sides_of self.now).sender def)) (rules_in (sides_of self.now).sender def)) }
+    {
+        let level = self.lengths.of_level(def);
+        level_least(alloc, self.lengths.book, def, &level)
+    }
+
+    /// A level of a definition of A that shows by itself what a line reports, where B reads it by another.
+    fn line_parts(
+        &self,
+        alloc: Global,
+        def: DefId,
+        other: DefId,
+        line: &LevelLine,
+    ) -> Result<Vec<Part>, AllocError>
+        requires first { def < length (definitions (sides_of self.now).sender) }
+        requires second { other < length (definitions (sides_of self.now).receiver) }
+        ensures { IfOk result (λ parts. IsLineLevel (reads_in (stock_of self.now).costs
+            (rules_in (sides_of self.now).sender def) (rules_in (sides_of self.now).receiver other)) line.now parts.items) }
+    {
+        let level = self.lengths.of_level(def);
+        let a = self.lengths.book;
+        line_level(alloc, a, def, self.b, other, &level, line)
     }
 }
 

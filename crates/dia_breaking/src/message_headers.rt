@@ -6,6 +6,7 @@ ghost use Rattle.dia_breaking.specs.Messages.{app_at, command_flags, header_byte
 use crate::heads::Head;
 use crate::line::{Cause, Line, Place, Site};
 use dia_book::Class;
+use dia_breaking_data::big_endian;
 use dia_breaking_shortest::push_length;
 use dia_wire::{COMMAND_ERROR, COMMAND_PROXIABLE, COMMAND_REQUEST, HEADER_LENGTH};
 use std::alloc::AllocError;
@@ -26,7 +27,7 @@ pub(crate) fn push_header(
     out.push(command_flags(head.class, p))?;
     push_length(out, u64::from(head.code))?;
     let app = application(site);
-    out.extend_from_slice(&app.to_be_bytes())?;
+    out.extend_from_slice(&big_endian(app))?;
     out.extend_from_slice(&[0, 0, 0, 0, 0, 0, 0, 0])?;
     Ok(())
 }

@@ -9,7 +9,6 @@ use crate::lengths::Lengths;
 use crate::meanings::is_read_as_other;
 use dia_book::{Book, Key};
 use dia_breaking_avps::{AvpBreaks, avp_breaks};
-use dia_breaking_levels::Costs;
 use dia_terms::Unknown;
 use std::alloc::{AllocError, Global};
 

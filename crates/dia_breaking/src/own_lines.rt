@@ -20,7 +20,7 @@ use crate::upgrade::Upgrade;
 use dia_book::{Book, Format, Key};
 use dia_breaking_avps::{DataBreak, HeadBreak};
 use dia_breaking_data::Witness;
-use dia_breaking_levels::{Costs, TOO_LONG};
+use dia_breaking_levels::TOO_LONG;
 use dia_breaking_shortest::{push_least, shortest_head};
 use dia_breaking_ways::Reach;
 use dia_data::{Leaf, accepts};

@@ -4,6 +4,8 @@ ghost use Rattle.std.proofs.Props.{props};
 ghost use Rattle.dia_book.specs.Dictionary.{definitions};
 ghost use Rattle.dia_valid.specs.Rules.{rules_in};
 ghost use Rattle.dia_breaking_ways.specs.Walks.{plain_node};
+ghost use Rattle.dia_names.specs.Marked.{marks_in};
+ghost use Rattle.dia_names.specs.Names.{marks_of};
 ghost use Rattle.dia_breaking.specs.Confirmed.{EachConfirmedBreaks, HaveStandings, left_after};
 ghost use Rattle.dia_breaking.specs.Free.{AllAreValid, AreValidWhereFree};
 ghost use Rattle.dia_breaking.specs.Headers.{AreApps};
@@ -29,8 +31,9 @@ use crate::nodes::nodes_of;
 use crate::own_breaks::{OwnBreaks, own_breaks};
 use crate::readings::OtherApps;
 use dia_book::{Book, Class, DefId};
-use dia_breaking_levels::{Line as LevelLine, level_lines};
+use dia_breaking_levels::Line as LevelLine;
 use dia_breaking_ways::Node;
+use dia_names::AvpNames;
 use dia_terms::{Sends, Unknown};
 use std::alloc::{AllocError, Global};
 
@@ -49,10 +52,13 @@ pub struct Upgrade<'a, A: Book, B: Book> {
     pub(crate) nodes: Vec<Node>,
     /// How they break by themselves.
     pub(crate) own: Vec<OwnBreaks>,
+    /// What lines call the AVPs.
+    pub(crate) names: Box<AvpNames>,
     ghost shortest: { PicksShortest (sender_in lengths) (B.meaning b.now) (costs_of lengths) },
     ghost graph: { map plain_node nodes.items ≡ map node_in outlooks.items },
     ghost known: { ∥ AreFacts (sides (sender_in lengths) (B.meaning b.now) lengths.sends unknown)
         (facts_by lengths.entries.items lengths.others.items recording.value outlooks.items own.items) ∥₁ },
+    ghost named: { marks_in names.value ≡ marks_of (sender_in lengths) (B.meaning b.now) },
     ghost first_apps: { AreApps (sender_in lengths) apps.value.first } by { Prim.hlevel props },
     ghost second_apps: { AreApps (B.meaning b.now) apps.value.second } by { Prim.hlevel props },
     ghost others: { AreOtherApps (sender_in lengths) (B.meaning b.now) new_apps.value } by { Prim.hlevel props },
@@ -71,6 +77,7 @@ impl<A: Book, B: Book> Drop for Upgrade<'_, A, B> {
             outlooks: _,
             nodes: _,
             own: _,
+            names: _,
         } = self;
     }
 }
@@ -102,6 +109,7 @@ impl<'a, A: Book, B: Book> Upgrade<'a, A, B> {
         let outlooks = outlooks(alloc, b, &recording, &lengths)?;
         let nodes = nodes_of(alloc, &outlooks)?;
         let own = own_breaks(alloc, b, &recording.own, &lengths, unknown)?;
+        let names = AvpNames::new(alloc, book, b)?;
         Ok(Upgrade {
             lengths,
             b,
@@ -112,6 +120,7 @@ impl<'a, A: Book, B: Book> Upgrade<'a, A, B> {
             outlooks,
             nodes,
             own,
+            names,
         })
     }
 
@@ -209,13 +218,6 @@ impl<'a, A: Book, B: Book> Upgrade<'a, A, B> {
         ensures { IfOk result (λ lines. AreLinesOf (costs_of self.now.lengths)
             (rules_in (sides_of self.now).sender a_def) (rules_in (sides_of self.now).receiver b_def) lines.items) }
     {
-        level_lines(
-            alloc,
-            self.lengths.book,
-            a_def,
-            self.b,
-            b_def,
-            &self.lengths,
-        )
+        self.lengths.lines_between(alloc, a_def, self.b, b_def)
     }
 }

@@ -9,7 +9,7 @@ ghost use Rattle.dia_breaking.specs.Words.{is_command, path_text, path_to, place
 ghost use Rattle.dia_breaking.specs.Words.{refused_application, standing_text, subject_name};
 ghost use Rattle.dia_breaking.specs.Words.{Writes, unknown_detail, words_of};
 
-use crate::books::{format_of, name_of};
+use crate::books::format_of;
 use crate::format_words::{push_format_detail, push_formats};
 use crate::line::{Breaks, Cause, Line, Place, Site, Standing};
 use crate::upgrade::Upgrade;
@@ -79,17 +79,11 @@ impl<'a, A: Book, B: Book> Upgrade<'a, A, B> {
         }
     }
 
-    /// The name in A, else in B, else `AVP`.
+    /// The name in A, else in B, or `CODE:VENDOR` where A has another AVP of that name, else `AVP`.
     fn avp_name(&self, key: Key) -> &str
         ensures { result.now ≡ avp_name (sides_of self.now) key }
     {
-        match name_of(self.lengths.book, key) {
-            Some(name) => name,
-            None => match name_of(self.b, key) {
-                Some(name) => name,
-                None => "AVP",
-            },
-        }
+        self.names.name(self.lengths.book, self.b, key)
     }
 
     /// The name of an AVP, or `AVP` where the wildcard counts.

@@ -1,5 +1,5 @@
 -- Levels that are Addresses: they aren't empty, and begin with the code of no family.
-use Rattle.std.proofs.Common.{◌≡◌, ℕ, ◌+◌, ◌*◌, ◌<◌, true, false, List, [], ◌∷◌, ◌++◌, length, map, Option, Some, None, refl, sym, ap, subst, arith, inl, inr}
+use Rattle.std.proofs.Common.{◌≡◌, ◌≢◌, ℕ, ◌+◌, ◌*◌, ◌<◌, true, false, List, [], ◌∷◌, ◌++◌, length, map, All, Option, Some, None, refl, sym, ap, subst, arith, inl, inr}
 use Rattle.std.specs.Prelude.{◌⊎◌, is_some, not, option_and_then, slice_get, IsTrue, MatchOption}
 use Rattle.std.specs.List.{AllByRecursion}
 use Rattle.std.proofs.lemmas.Bool.{both_ways}
@@ -12,12 +12,12 @@ use Rattle.dia_book.specs.Dictionary.{Dictionary, DictEntry, is_fixed}
 use Rattle.dia_book.specs.Keys.{same_key}
 use Rattle.dia_book.proofs.SameKeys.{same_key-true}
 use Rattle.dia_terms.specs.declared.sends.Sends.{Sends}
-use Rattle.dia_terms.specs.declared.sends.Sends.TheVariants.{Any, Known, Listed}
+use Rattle.dia_terms.specs.declared.sends.Sends.TheVariants.{Any, Known, Filled, Listed}
 use Rattle.dia_valid.specs.Valid.{Placed, fixed_rules, has_wildcard, is_listed, is_wildcard, known, loose_rules}
 use Rattle.dia_valid.proofs.Members.{IsIn, all_of, any_in, in_at, in_filter}
 use Rattle.dia_valid.proofs.RulesOfKeys.{IsRunKey, all_middle, listed}
 use Rattle.dia_valid.proofs.Searches.{Found, NotFound, found_or_not}
-use Rattle.dia_breaking_sites.specs.Sent.{AreBytes, IsSentLevel, IsSentWithin, StandAsSent}
+use Rattle.dia_breaking_sites.specs.Sent.{is_open, AreBytes, AreListed, IsSentLevel, IsSentWithin, StandAsSent}
 use Rattle.dia_breaking_sites.proofs.Members.{all_parts}
 use Rattle.dia_breaking_avps.specs.Levels.{AreAddresses, HasNoFamily, HaveNoFamilies, IsFamily, OthersHaveNone}
 use Rattle.dia_breaking_avps.proofs.Alone.{sent_data}
@@ -85,14 +85,13 @@ first_placed rules key keys placed = by m.0 m.1 m.2
         inl (run.rule, (in_filter is_fixed rules run.rule run.is_rule).0, run.is_key)
 
 -- an AVP that A knows has an entry of its key
-of_entries : (d : Dictionary) (v : PlainAvp) (n : ℕ) → IsSentWithin d Known n v → OthersHaveNone d Known → HasNoFamily (key_of v)
-of_entries d v n sent all = by (found_or_not (λ (e : DictEntry). same_key (key_of v) e.key) d.entries)
+of_entries : (d : Dictionary) (who : Sends) (v : PlainAvp) (n : ℕ) → who ≢ Any → IsSentWithin d who n v → All (λ e. ¬ IsFamily e.key.code) d.entries → HasNoFamily (key_of v)
+of_entries d who v n other sent all = by (found_or_not (λ (e : DictEntry). same_key (key_of v) e.key) d.entries)
   where
     unknown : known d (key_of v) ≡ None → ⊥
     unknown none =
-        let any : Known ≡ Any = subst (λ (o : Option DictEntry). MatchOption o (Known ≡ Any) (λ e. MatchOption e.group (IsLeaf e.format v.bytes) (λ group. (n : ℕ) × IsSentLevel Known (IsSentWithin d Known n) group.rules v.bytes))) none
-        (sent_data d Known n v sent) in
-        cc
+        other (subst (λ (o : Option DictEntry). MatchOption o (who ≡ Any) (λ e. MatchOption e.group (IsLeaf e.format v.bytes) (λ group. (n : ℕ) × IsSentLevel who (IsSentWithin d who n) group.rules v.bytes))) none
+        (sent_data d who n v sent))
 
     by : Found (λ (e : DictEntry). same_key (key_of v) e.key) d.entries ⊎ NotFound (λ (e : DictEntry). same_key (key_of v) e.key) d.entries → HasNoFamily (key_of v)
     by (inl f) =
@@ -101,24 +100,31 @@ of_entries d v n sent all = by (found_or_not (λ (e : DictEntry). same_key (key_
 
 -- what no rule lists
 unlisted : (d : Dictionary) (who : Sends) (v : PlainAvp) (n : ℕ) (rules : List DRule) (keys : List Key) → StandAsSent who rules (key_of v ∷ keys) → IsSentWithin d who n v
-    → is_listed rules (key_of v) ≡ false → OthersHaveNone d who → HasNoFamily (key_of v)
+    → is_listed rules (key_of v) ≡ false → OthersHaveNone d who rules → HasNoFamily (key_of v)
 unlisted d Any v n rules keys stand sent other none = absurd none
-unlisted d Known v n rules keys stand sent other none = of_entries d v n sent none
-unlisted d Listed v n rules keys stand sent other none = absurd (both_ways (is_listed rules (key_of v)) other stand.1.0)
+unlisted d Known v n rules keys stand sent other none = of_entries d Known v n (λ e. absurd (let bad : Known ≡ Any = e in cc)) sent none
+unlisted d Filled v n rules keys stand sent other none = by stand.1
+  where
+    by : IsTrue (is_open Filled rules) ⊎ AreListed rules (key_of v ∷ keys) → HasNoFamily (key_of v)
+    by (inl lets) = of_entries d Filled v n (λ e. absurd (let bad : Filled ≡ Any = e in cc)) sent (none lets)
+    by (inr all) = absurd (both_ways (is_listed rules (key_of v)) other all.0)
+unlisted d Listed v n rules keys stand sent other none = by stand.1
+  where
+    by : IsTrue (is_open Listed rules) ⊎ AreListed rules (key_of v ∷ keys) → HasNoFamily (key_of v)
+    by (inl never) = absurd (let bad : false ≡ true = never in cc)
+    by (inr all) = absurd (both_ways (is_listed rules (key_of v)) other all.0)
 
-wildcard_none : (d : Dictionary) (who : Sends) (rules : List DRule) → IsTrue (has_wildcard rules) → HaveNoFamilies d who rules → OthersHaveNone d who
+wildcard_none : (d : Dictionary) (who : Sends) (rules : List DRule) → IsTrue (has_wildcard rules) → HaveNoFamilies d who rules → OthersHaveNone d who rules
 wildcard_none d who rules has all =
     let r = any_in is_wildcard rules has in
-    of_rule r.0.key (all_of (λ (rule : DRule). MatchOption rule.key (OthersHaveNone d who) HasNoFamily) rules r.0 all r.1) r.2
+    of_rule r.0.key (all_of (λ (rule : DRule). MatchOption rule.key (OthersHaveNone d who rules) HasNoFamily) rules r.0 all r.1) r.2
   where
-    of_rule : (o : Option Key) → MatchOption o (OthersHaveNone d who) HasNoFamily → not (is_some o) ≡ true → OthersHaveNone d who
+    of_rule : (o : Option Key) → MatchOption o (OthersHaveNone d who rules) HasNoFamily → not (is_some o) ≡ true → OthersHaveNone d who rules
     of_rule None h is = h
     of_rule (Some key) h is = absurd (let e : false ≡ true = is in cc)
 
 placed_of : (who : Sends) (rules : List DRule) (keys : List Key) → StandAsSent who rules keys → Placed rules keys
-placed_of Any rules keys h = h
-placed_of Known rules keys h = h
-placed_of Listed rules keys h = h.0
+placed_of who rules keys h = h.0
 
 first_none : (d : Dictionary) (who : Sends) (v : PlainAvp) (n : ℕ) (rules : List DRule) (keys : List Key) → StandAsSent who rules (key_of v ∷ keys) → IsSentWithin d who n v → HaveNoFamilies d who rules
     → HasNoFamily (key_of v)
@@ -126,7 +132,7 @@ first_none d who v n rules keys stand sent all = by (first_placed rules (key_of 
   where
     by : IsLetIn rules (key_of v) → HasNoFamily (key_of v)
     by (inl (rule, is, names)) =
-        subst (λ (o : Option Key). MatchOption o (OthersHaveNone d who) HasNoFamily) names (all_of (λ (r : DRule). MatchOption r.key (OthersHaveNone d who) HasNoFamily) rules rule all is)
+        subst (λ (o : Option Key). MatchOption o (OthersHaveNone d who rules) HasNoFamily) names (all_of (λ (r : DRule). MatchOption r.key (OthersHaveNone d who rules) HasNoFamily) rules rule all is)
     by (inr (other, has)) = unlisted d who v n rules keys stand sent other (wildcard_none d who rules has all)
 
 -- ---- the level

@@ -29,6 +29,7 @@ use Rattle.dia_breaking_avps.proofs.FirstAvps.{data_bytes}
 only_any : (who : Sends) (flags : ℕ) → IsAccepted (own_policy who) flags → who ≡ senders.Any
 only_any senders.Any flags h = refl
 only_any senders.Known flags h = absurd h
+only_any senders.Filled flags h = absurd h
 only_any senders.Listed flags h = absurd h
 
 -- the AVP is as the entry says, where P says which data a group may have

@@ -1,5 +1,5 @@
 -- Levels of AVPs that are read as leaves (RFC 6733 sections 4.1 to 4.4).
-use Rattle.std.specs.Prelude.{◌≡◌, ℕ, ◌<◌, ◌≤◌, List, [], All, Contains, MatchOption, ⊤}
+use Rattle.std.specs.Prelude.{◌≡◌, ℕ, ◌<◌, ◌≤◌, List, [], All, Contains, IsTrue, MatchOption, ⊤}
 use Rattle.dia_wire.specs.declared.Key.{Key}
 use Rattle.dia_wire.specs.Wire.{PlainAvp, SpellsAll, avp_length}
 use Rattle.dia_data.specs.Plain.{PlainFormat, EightBytes, Address, Utf8String}
@@ -7,7 +7,8 @@ use Rattle.dia_data.specs.Leaf.{IsLeaf}
 use Rattle.dia_book.specs.declared.DRule.{DRule}
 use Rattle.dia_book.specs.Dictionary.{Dictionary}
 use Rattle.dia_terms.specs.declared.sends.Sends.{Sends}
-use Rattle.dia_terms.specs.declared.sends.Sends.TheVariants.{Any, Known, Listed}
+use Rattle.dia_terms.specs.declared.sends.Sends.TheVariants.{Any, Known, Filled, Listed}
+use Rattle.dia_breaking_sites.specs.Sent.{is_open}
 
 -- the least AVP Length whose three bytes are all graphic, as those of a DiameterIdentity are: 0x212121
 abbrev pub graphic_length : ℕ
@@ -49,18 +50,19 @@ past_families = 196608
 abbrev pub IsFamily : ℕ → Type 0
 IsFamily code = (first_family ≤ code) × (code < past_families)
 
--- nor has an AVP that no rule lists such a code, as the dictionary's side sends it
-abbrev pub OthersHaveNone : Dictionary → Sends → Type 0
-OthersHaveNone d Any = ⊥
-OthersHaveNone d Known = All (λ e. ¬ IsFamily e.key.code) d.entries
-OthersHaveNone d Listed = ⊤
+-- nor has an AVP that none of the rules lists such a code, as the dictionary's side sends it
+abbrev pub OthersHaveNone : Dictionary → Sends → List DRule → Type 0
+OthersHaveNone d Any rules = ⊥
+OthersHaveNone d Known rules = All (λ e. ¬ IsFamily e.key.code) d.entries
+OthersHaveNone d Filled rules = IsTrue (is_open Filled rules) → All (λ e. ¬ IsFamily e.key.code) d.entries
+OthersHaveNone d Listed rules = ⊤
 
 abbrev pub HasNoFamily : Key → Type 0
 HasNoFamily key = ¬ IsFamily key.code
 
 -- no rule lists such a code, and no wildcard lets one in
 abbrev pub HaveNoFamilies : Dictionary → Sends → List DRule → Type 0
-HaveNoFamilies d who rules = All (λ rule. MatchOption rule.key (OthersHaveNone d who) HasNoFamily) rules
+HaveNoFamilies d who rules = All (λ rule. MatchOption rule.key (OthersHaveNone d who rules) HasNoFamily) rules
 
 -- each level of the rules is an Address: it isn't empty, and begins with no such code
 abbrev pub AreAddresses : Dictionary → Sends → List DRule → Type 0

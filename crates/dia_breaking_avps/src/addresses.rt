@@ -8,6 +8,7 @@ ghost use Rattle.dia_breaking_avps.specs.Levels.{HasNoFamily, IsFamily, OthersHa
 use crate::breaking::DataBreak;
 use crate::forms::asks_for_none;
 use dia_book::{Book, DRule};
+use dia_breaking_sites::is_open;
 use dia_terms::Sends;
 
 /// The least code whose first two bytes are 1, the family of IPv4.
@@ -22,7 +23,7 @@ pub(crate) fn level_as_address<A: Book>(a: &A, sends: Sends, rules: &[DRule]) ->
 {
     if asks_for_none(rules) {
         DataBreak::LeastLevel
-    } else if have_no_families(rules, others_have_none(a, sends)) {
+    } else if have_no_families(rules, others_have_none(a, sends, rules)) {
         DataBreak::Fits
     } else {
         DataBreak::Undecided
@@ -47,14 +48,25 @@ fn has_no_family(rule: &DRule, is_wildcard_fine: bool) -> bool
     }
 }
 
-/// Whether no AVP that a wildcard lets in has the code of a family.
-fn others_have_none<A: Book>(a: &A, sends: Sends) -> bool
-    ensures { IsTrue result ↔ OthersHaveNone (A.meaning a.now) sends }
+/// Whether no AVP that the wildcard of these rules lets in has the code of a family.
+fn others_have_none<A: Book>(a: &A, sends: Sends, rules: &[DRule]) -> bool
+    ensures { IsTrue result ↔ OthersHaveNone (A.meaning a.now) sends rules.now }
 {
     match sends {
         Sends::Any => false,
         Sends::Known => entries_have_none(a),
+        Sends::Filled => filled_have_none(a, rules),
         Sends::Listed => true,
+    }
+}
+
+fn filled_have_none<A: Book>(a: &A, rules: &[DRule]) -> bool
+    ensures { IsTrue result ↔ OthersHaveNone (A.meaning a.now) Sends.Filled rules.now }
+{
+    if is_open(Sends::Filled, rules) {
+        entries_have_none(a)
+    } else {
+        true
     }
 }
 

@@ -81,7 +81,7 @@ fn known_break<A: Book, B: Book>(a: &A, b: &B, key: Key, entry: Entry, sends: Se
         },
         None => match sends {
             Sends::Any => sent_leaf(&Format::OctetString, b, entry),
-            Sends::Known | Sends::Listed => DataBreak::Fits,
+            Sends::Known | Sends::Filled | Sends::Listed => DataBreak::Fits,
         },
     }
 }

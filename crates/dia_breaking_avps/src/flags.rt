@@ -20,7 +20,7 @@ pub(crate) fn own_policy(sends: Sends) -> Unknown
 {
     match sends {
         Sends::Any => Unknown::Kept,
-        Sends::Known | Sends::Listed => Unknown::Refused,
+        Sends::Known | Sends::Filled | Sends::Listed => Unknown::Refused,
     }
 }
 

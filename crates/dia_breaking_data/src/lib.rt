@@ -15,4 +15,4 @@ mod numbers;
 mod short_data;
 
 pub use finding::{shortest, witness};
-pub use short_data::Witness;
+pub use short_data::{Witness, big_endian};

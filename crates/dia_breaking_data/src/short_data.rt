@@ -1,5 +1,8 @@
 //! A few bytes, held by value.
 ghost use Rattle.std.specs.Prelude.{◌≡◌, ◌<◌, ◌≤◌, ℕ, length, slice_index};
+ghost use Rattle.std.specs.Int.{to_be_bytes, w32};
+
+use byteorder::{BigEndian, ByteOrder};
 
 /// Data of at most 8 bytes.
 #[derive(Clone, Copy)]
@@ -31,7 +34,7 @@ impl Witness {
     pub(crate) fn of_number(number: u32) -> Self
         ensures { witness_bytes result ≡ four_bytes number }
     {
-        Witness::new(&number.to_be_bytes())
+        Witness::new(&big_endian(number))
     }
 
     /// The bytes.
@@ -40,4 +43,13 @@ impl Witness {
     {
         &self.bytes[..self.count]
     }
+}
+
+/// A number in network byte order.
+pub fn big_endian(number: u32) -> [u8; 4]
+    ensures { result ≡ to_be_bytes w32 number }
+{
+    let mut bytes = [0; 4];
+    BigEndian::write_u32(&mut bytes, number);
+    bytes
 }

@@ -43,10 +43,10 @@ module _ {X : Type 0} (f : X → List ℕ) where
       ∙ ap (λ (k : ℕ). option_or (position (has_text f q) (take i xs)) (cond (has_text f q (get_or xs i d)) (Some k) None)) (length-take-le i xs (omega (arith, less))))
 
 -- a text that had no place has this one
-pub added_first : (key : String Global) (place : ℕ) (old new : BTreeMap (String Global) ℕ) → get_by_text old (string_bytes key) ≡ None
+pub added_first : {V : Type 0} (key : String Global) (place : V) (old new : BTreeMap (String Global) V) → get_by_text old (string_bytes key) ≡ None
     → UpdatesBy string_cmp (string_cmp key) old new (Some place)
     → (q : List ℕ) → get_by_text new q ≡ option_or (get_by_text old q) (cond (bytes_eq (string_bytes key) q) (Some place) None)
-added_first key place old new none updates q = by (bytes_eq (string_bytes key) q) refl
+added_first {V} key place old new none updates q = by (bytes_eq (string_bytes key) q) refl
   where
     got : get_by_text new q ≡ cond (bytes_eq (string_bytes key) q) (Some place) (get_by_text old q)
     got = btree_map_updates_text (string_bytes key) old new (Some place) updates q
@@ -61,13 +61,13 @@ added_first key place old new none updates q = by (bytes_eq (string_bytes key) q
         ∙ sym (ap (λ (b : Bool). option_or (get_by_text old q) (cond b (Some place) None)) e ∙ or_none (get_by_text old q))
 
 -- a text that has a place keeps it
-pub kept_first : (text : List ℕ) (place : ℕ) (old : BTreeMap (String Global) ℕ) (at : ℕ) → get_by_text old text ≡ Some at
+pub kept_first : {V : Type 0} (text : List ℕ) (place : V) (old : BTreeMap (String Global) V) (at : V) → get_by_text old text ≡ Some at
     → (q : List ℕ) → get_by_text old q ≡ option_or (get_by_text old q) (cond (bytes_eq text q) (Some place) None)
-kept_first text place old at some q = by (bytes_eq text q) refl
+kept_first {V} text place old at some q = by (bytes_eq text q) refl
   where
     by : (b : Bool) → bytes_eq text q ≡ b → get_by_text old q ≡ option_or (get_by_text old q) (cond (bytes_eq text q) (Some place) None)
     by true e =
         let same : text ≡ q = (bytes_eq-Decides text q).0 e in
         let has : get_by_text old q ≡ Some at = subst (λ (t : List ℕ). get_by_text old t ≡ Some at) same some in
-        has ∙ sym (ap (λ (o : Option ℕ). option_or o (cond (bytes_eq text q) (Some place) None)) has)
+        has ∙ sym (ap (λ (o : Option V). option_or o (cond (bytes_eq text q) (Some place) None)) has)
     by false e = sym (ap (λ (b : Bool). option_or (get_by_text old q) (cond b (Some place) None)) e ∙ or_none (get_by_text old q))

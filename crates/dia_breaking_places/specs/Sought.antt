@@ -67,7 +67,7 @@ same_command p wanted (heads.Error pxy) = command_by Number p (codes "ERR")
 
 -- ---- what a line is about
 
--- the command and the application of its path, its last group if it has one, and the AVP or `AVP`
+-- the command and the application of its path, its last group if it has one, and the name or the `CODE:VENDOR` of the AVP, or `AVP`
 pub record PlainMatter : Type 0 where
   pub kind : MatterKind
   pub command : List ℕ
@@ -94,9 +94,20 @@ other_group a b name = option_and_then (group_by Number b) (number_of a name)
 abbrev pub other_level : Parts → Parts → PlainMatter → Option Def
 other_level a b m = option_map_or (other_group a b) m.group (other_command a b m)
 
--- B's name of the AVP that has this name in A; the same name where A or B has no such AVP
+-- B's name of the AVP of a number; that of the wildcard where B has none
+abbrev pub name_or_wildcard : Parts → List ℕ → List ℕ
+name_or_wildcard b number = unwrap_or (name_of b number) (codes "AVP")
+
+-- B's name of an AVP that A doesn't have, which a line calls by this name or `CODE:VENDOR`
+abbrev pub own_name : Parts → List ℕ → List ℕ
+own_name b text = unwrap_or (name_of b text) text
+
+-- B's name of the AVP that a line calls so
 abbrev pub other_name : Parts → Parts → List ℕ → List ℕ
-other_name a b name = unwrap_or (option_and_then (name_of b) (number_of a name)) name
+other_name a b text = option_map_or (name_or_wildcard b) (number_of a text) (own_name b text)
+
+abbrev pub own_place : Parts → List ℕ → Option ℕ
+own_place b text = option_or (avp_place b text) (avp_place_of b text)
 
 -- where A has what the line is about
 abbrev pub place_in_first : MatterKind → Parts → PlainMatter → Option ℕ
@@ -104,11 +115,11 @@ place_in_first kinds.Head a m = option_map (λ d. d.at) (command_by Name a m.com
 place_in_first kinds.Rule a m = option_map (rule_place m.subject) (level_of a m)
 place_in_first kinds.Avp a m = avp_place a m.subject
 
--- and B: the AVP of the same number, or of the same name where A has none of the name
+-- and B: the AVP of the same number, or of this name or number where A has none of the name
 abbrev pub place_in_second : MatterKind → Parts → Parts → PlainMatter → Option ℕ
 place_in_second kinds.Head a b m = option_map (λ d. d.at) (other_command a b m)
 place_in_second kinds.Rule a b m = option_map (rule_place (other_name a b m.subject)) (other_level a b m)
-place_in_second kinds.Avp a b m = option_map_or (avp_place_of b) (number_of a m.subject) (avp_place b m.subject)
+place_in_second kinds.Avp a b m = option_map_or (avp_place_of b) (number_of a m.subject) (own_place b m.subject)
 
 abbrev pub first_place : Parts → PlainMatter → Option ℕ
 first_place a m = place_in_first m.kind a m

@@ -1,10 +1,10 @@
 //! What a line is about, and where both dictionaries have it.
 
-ghost use Rattle.std.specs.Prelude.{◌≡◌, IfOk, option_and_then, string_bytes, unwrap_or};
+ghost use Rattle.std.specs.Prelude.{◌≡◌, IfOk, string_bytes, unwrap_or};
 ghost use Rattle.std.specs.Option.{option_map, option_map_or};
 ghost use Rattle.dia_breaking_places.specs.Parts.{parts_in};
-ghost use Rattle.dia_breaking_places.specs.Sought.{avp_place, avp_place_of, first_place, level_of, name_of, number_of};
-ghost use Rattle.dia_breaking_places.specs.Sought.{other_command, other_group, other_level, other_name};
+ghost use Rattle.dia_breaking_places.specs.Sought.{avp_place_of, first_place, level_of, name_of, name_or_wildcard, number_of};
+ghost use Rattle.dia_breaking_places.specs.Sought.{other_command, other_group, other_level, other_name, own_name, own_place};
 ghost use Rattle.dia_breaking_places.specs.Sought.{plain_matter, rule_place, second_place};
 
 use crate::places::Places;
@@ -33,7 +33,7 @@ pub struct Matter<'m> {
     pub application: Option<u32>,
     /// The last group of the path.
     pub group: Option<&'m str>,
-    /// The name of the AVP; `AVP` where the wildcard counts.
+    /// The name of the AVP, or `CODE:VENDOR`; `AVP` where the wildcard counts.
     pub subject: &'m str,
 }
 
@@ -145,28 +145,28 @@ fn other_rule(
 {
     let level = other_level(alloc, a, b, matter)?;
     let number = a.number_of(alloc, matter.subject)?;
-    let subject = name_or(b, &number, matter.subject);
+    let subject = other_name(b, &number, matter.subject);
     Ok(rule_place_in(level, subject))
 }
 
-/// B's name of the AVP of a number; this name where there is none.
-fn name_or<'n>(b: &Places<'n>, number: &Option<String>, name: &'n str) -> &'n str
-    ensures { result.now ≡ unwrap_or (option_and_then (name_of (parts_in b.now))
-        (option_map (λ t. string_bytes t) number.now)) name.now }
+/// B's name of the AVP of a number; without a number, of the AVP that has this name or `CODE:VENDOR`.
+fn other_name<'n>(b: &Places<'n>, number: &Option<String>, text: &'n str) -> &'n str
+    ensures { result.now ≡ option_map_or (name_or_wildcard (parts_in b.now))
+        (option_map (λ t. string_bytes t) number.now) (own_name (parts_in b.now) text.now) }
 {
-    match name_for(b, number) {
-        Some(other) => other,
-        None => name,
+    match number {
+        Some(number) => name_or(b, number.as_str(), "AVP"),
+        None => name_or(b, text, text),
     }
 }
 
-fn name_for<'n>(b: &Places<'n>, number: &Option<String>) -> Option<&'n str>
-    ensures { option_map (λ t. t.now) result
-        ≡ option_and_then (name_of (parts_in b.now)) (option_map (λ t. string_bytes t) number.now) }
+/// B's name of the AVP of a number; this name where there is none.
+fn name_or<'n>(b: &Places<'n>, number: &str, name: &'n str) -> &'n str
+    ensures { result.now ≡ unwrap_or (name_of (parts_in b.now) number.now) name.now }
 {
-    match number {
-        Some(number) => b.name_of(number.as_str()),
-        None => None,
+    match b.name_of(number) {
+        Some(other) => other,
+        None => name,
     }
 }
 
@@ -174,13 +174,23 @@ fn other_avp(
     alloc: Global,
     a: &Places<'_>,
     b: &Places<'_>,
-    name: &str,
+    text: &str,
 ) -> Result<Option<usize>, AllocError>
     ensures { IfOk result (λ place. place ≡ option_map_or (avp_place_of (parts_in b.now))
-        (number_of (parts_in a.now) name.now) (avp_place (parts_in b.now) name.now)) }
+        (number_of (parts_in a.now) text.now) (own_place (parts_in b.now) text.now)) }
 {
-    match a.number_of(alloc, name)? {
+    match a.number_of(alloc, text)? {
         Some(number) => Ok(b.avp_place_of(number.as_str())),
-        None => Ok(b.avp_place(name)),
+        None => Ok(own_place(b, text)),
+    }
+}
+
+/// The place of the AVP that has this name or `CODE:VENDOR`.
+fn own_place(b: &Places<'_>, text: &str) -> Option<usize>
+    ensures { result ≡ own_place (parts_in b.now) text.now }
+{
+    match b.avp_place(text) {
+        Some(place) => Some(place),
+        None => b.avp_place_of(text),
     }
 }

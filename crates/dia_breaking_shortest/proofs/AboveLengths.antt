@@ -14,7 +14,7 @@ use Rattle.dia_valid.specs.Rules.{rules_in}
 use Rattle.dia_valid.proofs.GroupNumbers.{group_missing, group_number}
 use Rattle.dia_valid.proofs.Members.{at_some}
 use Rattle.dia_terms.specs.declared.Sends.{Sends}
-use Rattle.dia_terms.specs.declared.Sends.TheVariants.{Any, Known, Listed}
+use Rattle.dia_terms.specs.declared.Sends.TheVariants.{Any, Known, Filled, Listed}
 use Rattle.dia_breaking_levels.specs.LevelTests.{too_long}
 use Rattle.dia_breaking_shortest.specs.declared.lookup.Least.{Least}
 use Rattle.dia_breaking_shortest.specs.declared.order.Ranked.{Ranked}
@@ -36,6 +36,7 @@ floor_less : (d : Dictionary) (sends : Sends) (xs ys : List ℕ) (rules : List D
     → IsFillerFloor d sends xs rules n
 floor_less d Any xs ys rules n each floor = floor
 floor_less d Known xs ys rules n each floor = (floor.0, λ key free. let low = floor.1 key free in let less = length_less d Known xs ys each key in omega (arith, low, less))
+floor_less d Filled xs ys rules n each floor = floor
 floor_less d Listed xs ys rules n each floor = floor
 
 -- ---- what a wildcard is met with
@@ -54,6 +55,7 @@ filler_floor : (d : Dictionary) (sends : Sends) (unknown : Key) (lengths : List 
 filler_floor d Any unknown lengths order rules n floor ranks = let head = head_long unknown in omega (arith, floor, head)
 filler_floor d Known unknown lengths order rules n floor ranks =
     found_floor (length_of d Known lengths) rules order n floor.0 floor.1 (recursion_from_All (λ (r : Ranked). length_of d Known lengths r.key ≤ r.length) order ranks)
+filler_floor d Filled unknown lengths order rules n floor ranks = floor
 filler_floor d Listed unknown lengths order rules n floor ranks = floor
 
 -- ---- one length

@@ -11,7 +11,7 @@ use Rattle.dia_book.specs.declared.DRule.{DRule}
 use Rattle.dia_book.specs.Dictionary.{Dictionary, DictEntry, entry_of}
 use Rattle.dia_valid.specs.Valid.{is_listed}
 use Rattle.dia_terms.specs.declared.Sends.{Sends}
-use Rattle.dia_terms.specs.declared.Sends.TheVariants.{Any, Known, Listed}
+use Rattle.dia_terms.specs.declared.Sends.TheVariants.{Any, Known, Filled, Listed}
 use Rattle.dia_breaking_levels.specs.LevelTests.{too_long}
 use Rattle.dia_breaking_shortest.specs.declared.lookup.Least.{Least}
 use Rattle.dia_breaking_shortest.specs.declared.order.Ranked.{Ranked}
@@ -50,6 +50,7 @@ found_one f rules (r ∷ order) short all = by (is_listed rules r.key) refl (fou
 floor_of : (d : Dictionary) (sends : Sends) (lengths : List ℕ) (rules : List DRule) (n : ℕ) → n ≤ too_long → IsFillerLength d sends lengths rules n → IsFillerFloor d sends lengths rules n
 floor_of d Any lengths rules n short is = omega (arith, is)
 floor_of d Known lengths rules n short is = (short, is.none_is_shorter)
+floor_of d Filled lengths rules n short is = short
 floor_of d Listed lengths rules n short is = short
 
 module _ (d : Dictionary) (least : Least) (order : List Ranked) (kept : AreKept d least) (are : IsOrder (length_in d least) d.entries order) where
@@ -72,6 +73,7 @@ module _ (d : Dictionary) (least : Least) (order : List Ranked) (kept : AreKept 
         let f = length_of d Known least.lengths.items in
         found_one f rules order known_short (recursion_from_All (λ (r : Ranked). r.length ≡ f r.key) order (own_lengths f d.entries order own));
   }
+  filler_exact Filled is rules = refl
   filler_exact Listed is rules = refl
 
 pub are_exact : (d : Dictionary) (least : Least) → AreKept d least → AreSettled d least → AreExact d least.sends least.lengths.items

@@ -12,7 +12,7 @@ use Rattle.dia_book.specs.declared.DRule.{DRule}
 use Rattle.dia_book.specs.Dictionary.{Dictionary, DictEntry, PlainDefinition}
 use Rattle.dia_valid.specs.Valid.{IsAccepted, MHolds, known}
 use Rattle.dia_terms.specs.declared.Sends.{Sends}
-use Rattle.dia_terms.specs.declared.Sends.TheVariants.{Any, Known, Listed}
+use Rattle.dia_terms.specs.declared.Sends.TheVariants.{Any, Known, Filled, Listed}
 use Rattle.dia_breaking_sites.specs.Sent.{own_policy, StandAsSent, IsSentLevel, IsSentWithin, IsSent, IsSentAvp, AreBytes}
 use Rattle.dia_breaking_sites.proofs.Members.{IsIn}
 use Rattle.dia_breaking_levels.specs.LeastLevels.{total}
@@ -65,6 +65,7 @@ record HasFloor (sends : Sends) (floor : Key → ℕ) (rules : List DRule) (byte
 only_any : (sends : Sends) (flags : ℕ) → IsAccepted (own_policy sends) flags → sends ≡ Any
 only_any Any flags a = refl
 only_any Known flags a = absurd a
+only_any Filled flags a = absurd a
 only_any Listed flags a = absurd a
 
 of_entry : (d : Dictionary) (sends : Sends) (floor : Key → ℕ) → AreFloors d sends floor → (Inner : List DRule → List ℕ → Type 0)

@@ -1,6 +1,6 @@
 -- Lengths that no pass makes less are floors.
 use Rattle.std.proofs.Common.{◌≡◌, ℕ, zero, suc, ◌+◌, ◌≤◌, Bool, true, false, List, [], ◌∷◌, length, Option, Some, None, refl, sym, ap, subst, ◌∙◌, arith, inl, inr}
-use Rattle.std.specs.Prelude.{not, map, find, slice_get, slice_index_or, if◌then◌else◌, option_and_then}
+use Rattle.std.specs.Prelude.{◌⊎◌, not, map, find, slice_get, slice_index_or, if◌then◌else◌, option_and_then, IsTrue}
 use Rattle.std.specs.List.Sorted.{IsNonDecreasingBy}
 use Rattle.std.specs.Option.{option_map_or}
 use Rattle.std.proofs.lemmas.List.Sorted.{Contains-permutation}
@@ -8,18 +8,17 @@ use Rattle.std.proofs.lemmas.Option.{none-some, same_Some, slice_get_within}
 use Rattle.dia_wire.specs.declared.Key.{Key}
 use Rattle.dia_book.specs.declared.DRule.{DRule}
 use Rattle.dia_book.specs.Keys.{same_key}
-use Rattle.dia_book.specs.Dictionary.{Dictionary, DictEntry, PlainDefinition, IsDictionary, entry_of}
+use Rattle.dia_book.specs.Dictionary.{AreRules, Dictionary, DictEntry, PlainDefinition, IsDictionary, entry_of}
 use Rattle.dia_book.proofs.SameKeys.{same_key-true}
 use Rattle.dia_valid.specs.Valid.{known, is_listed, Placed}
 use Rattle.dia_valid.proofs.Entries.{kept_rules}
 use Rattle.dia_valid.proofs.Entries.{at_position}
 use Rattle.dia_valid.proofs.GroupNumbers.{number_of, group_there}
 use Rattle.dia_terms.specs.declared.Sends.{Sends}
-use Rattle.dia_terms.specs.declared.Sends.TheVariants.{Any, Known, Listed}
-use Rattle.dia_breaking_sites.specs.Sent.{StandAsSent, AreBytes}
+use Rattle.dia_terms.specs.declared.Sends.TheVariants.{Any, Known, Filled, Listed}
+use Rattle.dia_breaking_sites.specs.Sent.{is_open, AreBytes, AreListed, StandAsSent}
 use Rattle.dia_breaking_sites.proofs.Members.{IsIn, contains_in, in_contains, in_at, at_in, in_all}
 use Rattle.dia_breaking_data.specs.Shortest as witness
-use Rattle.dia_breaking_levels.specs.CountsAndRanks.{AreSound}
 use Rattle.dia_breaking_levels.specs.LeastLevels.{total}
 use Rattle.dia_breaking_levels.specs.LevelTests.{too_long, price, rule_floor, base_length}
 use Rattle.dia_breaking_levels.proofs.CountsAndRanks.{rules_sound}
@@ -33,6 +32,7 @@ use Rattle.dia_breaking_shortest.specs.Lengths.{entry_length, unknown_length, ra
 use Rattle.dia_breaking_shortest.specs.Passes.{length_in, IsSettled, AreKept, AreSettled}
 use Rattle.dia_breaking_shortest.proofs.FloorsOfAvps.{rounded_more}
 use Rattle.dia_breaking_shortest.proofs.LeafLengths.{leaf_floor}
+use Rattle.dia_breaking_shortest.proofs.OpenLevels.{open_base}
 
 -- ---- the first of a list in order
 
@@ -129,6 +129,7 @@ module _ (d : Dictionary) (least : Least) (order : List Ranked) (kept : AreKept 
       by zero = omega arith
       by (suc n) = omega arith
   low Known key = omega arith
+  low Filled key = omega arith
   low Listed key = omega arith
 
   at_least_head : (key : Key) → 8 ≤ length_in d least key
@@ -160,38 +161,53 @@ module _ (d : Dictionary) (least : Least) (order : List Ranked) (kept : AreKept 
           let same : length_in d least h.entry.key ≡ length_in d least key = ap (length_in d least) h.own in
           omega (arith, first, same)
 
-  filler_least : (sends : Sends) → least.sends ≡ sends → (rules : List DRule) (keys : List Key) → StandAsSent sends rules keys → (key : Key) → IsIn key keys → is_listed rules key ≡ false
-      → filler_length (filler_of sends least.unknown order rules) ≤ length_in d least key
-  filler_least Any is rules keys stand key i none = let same = head_is in let more = at_least_head key in omega (arith, same, more)
-  filler_least Known is rules keys stand key i none = filler_known is rules key none
-  filler_least Listed is rules keys stand key i none =
-      let lists : is_listed rules key ≡ true = in_all (λ (k : Key). is_listed rules k ≡ true) keys key stand.1 i in
-      absurd (let bad : false ≡ true = sym none ∙ lists in cc)
+  -- ---- levels
 
-  -- ---- groups
+  abbrev filler_by : List DRule → ℕ
+  filler_by rules = filler_length (filler_of least.sends least.unknown order rules)
 
-  placed_of : (sends : Sends) (rules : List DRule) (keys : List Key) → StandAsSent sends rules keys → Placed rules keys
-  placed_of Any rules keys stand = stand
-  placed_of Known rules keys stand = stand
-  placed_of Listed rules keys stand = stand.0
-
-  level_within : (rules : List DRule) (keys : List Key) → AreSound rules → StandAsSent least.sends rules keys
-      → base_length (length_in d least) (filler_length (filler_of least.sends least.unknown order rules)) rules ≤ total (length_in d least) keys
-  level_within rules keys sound stand =
+  level_by : (rules : List DRule) (keys : List Key) → AreRules rules → Placed rules keys
+      → ((key : Key) → IsIn key keys → is_listed rules key ≡ false → filler_by rules ≤ length_in d least key)
+      → base_length (length_in d least) (filler_by rules) rules ≤ total (length_in d least) keys
+  level_by rules keys are placed least_filler =
       let f = length_in d least in
-      let filler = filler_length (filler_of least.sends least.unknown order rules) in
-      let base = base_within f filler rules in
-      let floor : sum_of (rule_floor f filler) rules ≤ total (price f f rules) keys =
-      floor_least rules f f filler keys sound (placed_of least.sends rules keys stand) (λ q i none. filler_least least.sends refl rules keys stand q i none) in
+      let base = base_within f (filler_by rules) rules in
+      let floor : sum_of (rule_floor f (filler_by rules)) rules ≤ total (price f f rules) keys = floor_least rules f f (filler_by rules) keys (rules_sound rules are) placed least_filler in
       let same = total_price f rules keys in
       omega (arith, base, floor, same)
+
+  -- a level that has AVPs by a wildcard isn't shorter than the rules ask for with the filler
+  open_within : (sends : Sends) → least.sends ≡ sends → (rules : List DRule) (keys : List Key) → AreRules rules → Placed rules keys → IsTrue (is_open sends rules)
+      → base_length (length_in d least) (filler_by rules) rules ≤ total (length_in d least) keys
+  open_within Any is rules keys are placed lets =
+      level_by rules keys are placed (λ key i none.
+      let filler : filler_by rules ≡ 8 = ap (λ (s : Sends). filler_length (filler_of s least.unknown order rules)) is ∙ (let same = head_is in omega (arith, same)) in
+      let more = at_least_head key in
+      omega (arith, filler, more))
+  open_within Known is rules keys are placed lets =
+      level_by rules keys are placed (λ key i none.
+      subst (λ (s : Sends). filler_length (filler_of s least.unknown order rules) ≤ length_in d least key) (sym is) (filler_known is rules key none))
+  open_within Filled is rules keys are placed lets = let none = open_base (length_in d least) (filler_by rules) rules are lets in omega (arith, none)
+  open_within Listed is rules keys are placed lets = absurd (let bad : false ≡ true = lets in cc)
+
+  level_within : (rules : List DRule) (keys : List Key) → AreRules rules → StandAsSent least.sends rules keys
+      → base_length (length_in d least) (filler_by rules) rules ≤ total (length_in d least) keys
+  level_within rules keys are stand = by stand.1
+    where
+      by : IsTrue (is_open least.sends rules) ⊎ AreListed rules keys → base_length (length_in d least) (filler_by rules) rules ≤ total (length_in d least) keys
+      by (inl lets) = open_within least.sends refl rules keys are stand.0 lets
+      by (inr all) =
+          level_by rules keys are stand.0 (λ key i none.
+          let lists : is_listed rules key ≡ true = in_all (λ (k : Key). is_listed rules k ≡ true) keys key all i in
+          absurd (let bad : false ≡ true = sym none ∙ lists in cc))
+
+  -- ---- groups
 
   group_within : (e : ℕ) (entry : DictEntry) (group : PlainDefinition) (keys : List Key) → IsDictionary d → IsSettled d least order e → slice_get d.entries e ≡ Some entry → entry.group ≡ Some group
       → StandAsSent least.sends group.rules keys → entry_length least.lengths.items e ≤ padded (shortest_head entry.key + total (length_in d least) keys)
   group_within e entry group keys is settled at some stand =
       let place = group_there d e entry group at some in
-      let sound = rules_sound group.rules (kept_rules d (number_of d e) group is place.1) in
-      let level = level_within group.rules keys sound stand in
+      let level = level_within group.rules keys (kept_rules d (number_of d e) group is place.1) stand in
       let low : entry_length least.lengths.items e ≤ group_length (length_in d least) (filler_length (filler_of least.sends least.unknown order group.rules)) entry.key group.rules =
       settled entry group at some in
       let more = rounded_more (shortest_head entry.key + base_length (length_in d least) (filler_length (filler_of least.sends least.unknown order group.rules)) group.rules)

@@ -24,3 +24,4 @@ pub mod SpelledLeast
 pub mod SpelledParts
 pub mod Strangers
 pub mod WaitingAvps
+pub mod OpenLevels

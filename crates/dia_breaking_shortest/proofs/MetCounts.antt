@@ -9,7 +9,7 @@ use Rattle.dia_book.specs.declared.DRule.{DRule}
 use Rattle.dia_book.specs.Dictionary.{Dictionary, entry_of}
 use Rattle.dia_valid.specs.Valid.{is_listed}
 use Rattle.dia_terms.specs.declared.Sends.{Sends}
-use Rattle.dia_terms.specs.declared.Sends.TheVariants.{Any, Known, Listed}
+use Rattle.dia_terms.specs.declared.Sends.TheVariants.{Any, Known, Filled, Listed}
 use Rattle.dia_valid.proofs.Members.{IsIn, all_of, contains_in, in_at, in_contains}
 use Rattle.dia_breaking_levels.specs.LevelTests.{too_long, capped}
 use Rattle.dia_breaking_shortest.specs.declared.order.Ranked.{Ranked}
@@ -81,4 +81,5 @@ module _ (d : Dictionary) (lengths : List ℕ) (unknown : Key) (first : IsFirstU
       by : (o : Option Ranked) → find (is_unlisted rules) order ≡ o → (a ≡ too_long) ⊎ ((key : Key) × (is_listed rules key ≡ false) × (a ≡ length_of d Known lengths key)) → IsMet Known
       by o e (inl none) = absurd (omega (arith, none, short))
       by o e (inr (key, free, same)) = least key free same o e
+  met Filled are is = absurd (let none : a ≡ too_long = is in omega (arith, none, short))
   met Listed are is = absurd (let none : a ≡ too_long = is in omega (arith, none, short))

@@ -8,7 +8,7 @@ use Rattle.dia_book.specs.declared.DRule.{DRule}
 use Rattle.dia_book.specs.Dictionary.{Dictionary, DictEntry, PlainDefinition, entry_of}
 use Rattle.dia_valid.specs.Valid.{is_listed}
 use Rattle.dia_terms.specs.declared.Sends.{Sends}
-use Rattle.dia_terms.specs.declared.Sends.TheVariants.{Any, Known, Listed}
+use Rattle.dia_terms.specs.declared.Sends.TheVariants.{Any, Known, Filled, Listed}
 use Rattle.dia_breaking_levels.specs.LevelTests.{too_long, base_length}
 use Rattle.dia_breaking_shortest.specs.Exact.{AreExact, IsFillerLength, IsGroupLength}
 use Rattle.dia_breaking_shortest.specs.Floors.{shortest_head}
@@ -53,6 +53,7 @@ module _ (d : Dictionary) (xs ys : List ℕ) where
 
   filler_no_more : (sends : Sends) (v a b : ℕ) (rules : List DRule) → AreNoMore v → IsFillerLength d sends xs rules a → IsFillerLength d sends ys rules b → a < v → a < too_long → b ≤ a
   filler_no_more Any v a b rules before is other lt below = omega (arith, is, other)
+  filler_no_more Filled v a b rules before is other lt below = absurd (omega (arith, is, below))
   filler_no_more Listed v a b rules before is other lt below = absurd (omega (arith, is, below))
   filler_no_more Known v a b rules before is other lt below = by is.one_is_as_short
     where

@@ -16,7 +16,7 @@ use Rattle.dia_breaking_data.specs.TheData.{the_data}
 use Rattle.dia_book.specs.declared.DRule.{DRule}
 use Rattle.dia_book.specs.Dictionary.{Dictionary, DictEntry, PlainDefinition, definitions, entry_of}
 use Rattle.dia_terms.specs.declared.Sends.{Sends}
-use Rattle.dia_terms.specs.declared.Sends.TheVariants.{Any, Known, Listed}
+use Rattle.dia_terms.specs.declared.Sends.TheVariants.{Any, Known, Filled, Listed}
 use Rattle.dia_valid.specs.Rules.{rules_in}
 use Rattle.dia_valid.proofs.GroupNumbers.{group_missing, group_there, number_of}
 use Rattle.dia_valid.proofs.Members.{IsIn, contains_in, in_at}
@@ -215,6 +215,7 @@ module _ (d : Dictionary) (who : Sends) (least : Least) (is : IsLeastOf d who le
     takes = let own = head_four key in omega (arith, own);
   }
   unknown_whole Known key short = absurd (omega (arith, short))
+  unknown_whole Filled key short = absurd (omega (arith, short))
   unknown_whole Listed key short = absurd (omega (arith, short))
 
   -- a leaf: its data are retained

@@ -6,7 +6,7 @@ use Rattle.dia_book.specs.declared.DRule.{DRule}
 use Rattle.dia_book.specs.Dictionary.{Dictionary, DictEntry, PlainDefinition}
 use Rattle.dia_valid.specs.Valid.{is_listed}
 use Rattle.dia_terms.specs.declared.Sends.{Sends}
-use Rattle.dia_terms.specs.declared.Sends.TheVariants.{Any, Known, Listed}
+use Rattle.dia_terms.specs.declared.Sends.TheVariants.{Any, Known, Filled, Listed}
 use Rattle.dia_breaking_levels.specs.LevelTests.{too_long}
 use Rattle.dia_breaking_shortest.specs.Floors.{IsSpellable}
 use Rattle.dia_breaking_shortest.specs.Lengths.{entry_length, length_of, group_length, IsLeafLength}
@@ -16,10 +16,12 @@ pub record IsLeastUnlisted (d : Dictionary) (lengths : List ℕ) (rules : List D
   pub none_is_shorter : (key : Key) → is_listed rules key ≡ false → n ≤ length_of d Known lengths key
   pub one_is_as_short : (n ≡ too_long) ⊎ ((key : Key) × (is_listed rules key ≡ false) × (n ≡ length_of d Known lengths key))
 
--- the length of a shortest AVP that the wildcard of these rules lets in
+-- the length of a shortest AVP that the least count of these rules' wildcard is met with. With `Filled` a wildcard that asks for
+-- AVPs lets none in
 abbrev pub IsFillerLength : Dictionary → Sends → List ℕ → List DRule → ℕ → Type 0
 IsFillerLength d Any lengths rules n = n ≡ head_length None
 IsFillerLength d Known lengths rules n = IsLeastUnlisted d lengths rules n
+IsFillerLength d Filled lengths rules n = n ≡ too_long
 IsFillerLength d Listed lengths rules n = n ≡ too_long
 
 -- the length of the key's shortest group: its head, and each AVP of its rules as often as the rule asks for it

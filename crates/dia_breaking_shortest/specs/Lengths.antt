@@ -10,7 +10,7 @@ use Rattle.dia_book.specs.declared.DRule.{DRule}
 use Rattle.dia_book.specs.Dictionary.{Dictionary, DictEntry, entry_of}
 use Rattle.dia_valid.specs.Valid.{is_listed}
 use Rattle.dia_terms.specs.declared.Sends.{Sends}
-use Rattle.dia_terms.specs.declared.Sends.TheVariants.{Any, Known, Listed}
+use Rattle.dia_terms.specs.declared.Sends.TheVariants.{Any, Known, Filled, Listed}
 use Rattle.dia_breaking_levels.specs.LevelTests.{too_long, capped, base_length}
 use Rattle.dia_breaking_shortest.specs.declared.order.Ranked.{Ranked}
 use Rattle.dia_breaking_shortest.specs.Floors.{shortest_head, padded}
@@ -22,6 +22,7 @@ entry_length lengths e = option_map_or (λ n. n) (slice_get lengths e) too_long
 abbrev pub unknown_length : Sends → Key → ℕ
 unknown_length Any key = shortest_head key
 unknown_length Known key = too_long
+unknown_length Filled key = too_long
 unknown_length Listed key = too_long
 
 -- the length of each key, where the entries have these
@@ -42,10 +43,12 @@ pub record IsOrder (length : Key → ℕ) (entries : List DictEntry) (order : Li
 abbrev pub is_unlisted : List DRule → Ranked → Bool
 is_unlisted rules r = not (is_listed rules r.key)
 
--- what a wildcard's least count is met with: `unknown` is a key that the dictionary does not know
+-- what a wildcard's least count is met with: `unknown` is a key that the dictionary does not know. With `Filled` a wildcard that
+-- asks for AVPs lets none in
 abbrev pub filler_of : Sends → Key → List Ranked → List DRule → Option Ranked
 filler_of Any unknown order rules = Some (record { key = unknown; length = shortest_head unknown })
 filler_of Known unknown order rules = find (is_unlisted rules) order
+filler_of Filled unknown order rules = None
 filler_of Listed unknown order rules = None
 
 abbrev pub filler_length : Option Ranked → ℕ

@@ -5,7 +5,7 @@ use Rattle.dia_book.specs.declared.DRule.{DRule}
 use Rattle.dia_book.specs.Dictionary.{Dictionary, DictEntry, PlainDefinition}
 use Rattle.dia_valid.specs.Valid.{is_listed}
 use Rattle.dia_terms.specs.declared.Sends.{Sends}
-use Rattle.dia_terms.specs.declared.Sends.TheVariants.{Any, Known, Listed}
+use Rattle.dia_terms.specs.declared.Sends.TheVariants.{Any, Known, Filled, Listed}
 use Rattle.dia_breaking_levels.specs.LevelTests.{too_long}
 use Rattle.dia_breaking_shortest.specs.declared.lookup.Least.{Least}
 use Rattle.dia_breaking_shortest.specs.Least.{IsFirstUnknown}
@@ -27,10 +27,11 @@ IsSettledBy d sends unknown lengths order e = (entry : DictEntry) (group : Plain
 abbrev pub IsSettled : Dictionary → Least → List Ranked → ℕ → Type 0
 IsSettled d least = IsSettledBy d least.sends least.unknown least.lengths.items
 
--- no AVP that the wildcard of these rules lets in is shorter
+-- no AVP that the least count of these rules' wildcard is met with is shorter
 abbrev pub IsFillerFloor : Dictionary → Sends → List ℕ → List DRule → ℕ → Type 0
 IsFillerFloor d Any lengths rules n = n ≤ 8
 IsFillerFloor d Known lengths rules n = (n ≤ too_long) × ((key : Key) → is_listed rules key ≡ false → n ≤ length_of d Known lengths key)
+IsFillerFloor d Filled lengths rules n = n ≤ too_long
 IsFillerFloor d Listed lengths rules n = n ≤ too_long
 
 -- no group is shorter than its least level makes it

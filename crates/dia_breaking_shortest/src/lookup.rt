@@ -69,6 +69,7 @@ impl Least {
         match self.sends {
             Sends::Any => shortest_head(key),
             Sends::Known => TOO_LONG,
+            Sends::Filled => TOO_LONG,
             Sends::Listed => TOO_LONG,
         }
     }
@@ -130,7 +131,7 @@ impl Least {
         padded(shortest_head(key), level)
     }
 
-    /// What the least count of a definition's wildcard is met with.
+    /// What the least count of a definition's wildcard is met with. `Filled` sends nothing by a wildcard that asks for AVPs.
     pub(crate) fn filler<B: Book>(&self, book: &B, def: DefId, order: &[Ranked]) -> Option<Ranked>
         requires { def < length (definitions (B.meaning book.now)) }
         ensures { result ≡ filler_of self.now.sends self.now.unknown order.now
@@ -142,6 +143,7 @@ impl Least {
                 length: shortest_head(self.unknown),
             }),
             Sends::Known => first_unlisted(book, def, order),
+            Sends::Filled => None,
             Sends::Listed => None,
         }
     }

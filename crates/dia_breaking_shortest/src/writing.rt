@@ -11,8 +11,9 @@ ghost use Rattle.dia_breaking_shortest.specs.Waiting.{bytes_of, bytes_waiting, s
 use crate::lengths::shortest_head;
 use crate::lookup::Least;
 use crate::order::{group_of, rules_of};
+use byteorder::{BigEndian, ByteOrder};
 use dia_book::{Book, DRule, Entry, Key, MRule};
-use dia_breaking_data::Witness;
+use dia_breaking_data::{Witness, big_endian};
 use dia_breaking_levels::{Part, TOO_LONG};
 use dia_wire::{AVP_MANDATORY, AVP_VENDOR};
 use std::alloc::{AllocError, Global};
@@ -148,7 +149,7 @@ pub fn push_avp(out: &mut Vec<u8>, key: Key, m: bool, bytes: &[u8]) -> Result<()
 pub fn push_head(out: &mut Vec<u8>, key: Key, m: bool, length: u64) -> Result<(), AllocError>
     ensures { OnOk result (out.new.items ≡ out.old.items ++ head_bytes key m length) }
 {
-    out.extend_from_slice(&key.code.to_be_bytes())?;
+    out.extend_from_slice(&big_endian(key.code))?;
     out.push(avp_flags(key.vendor, m))?;
     push_length(out, length)?;
     push_vendor(out, key.vendor)
@@ -171,7 +172,8 @@ fn avp_flags(vendor: u32, m: bool) -> u8
 pub fn push_length(out: &mut Vec<u8>, length: u64) -> Result<(), AllocError>
     ensures { OnOk result (out.new.items ≡ out.old.items ++ length_bytes length) }
 {
-    let bytes = length.to_be_bytes();
+    let mut bytes = [0; 8];
+    BigEndian::write_u64(&mut bytes, length);
     out.extend_from_slice(&bytes[5..])
 }
 
@@ -181,7 +183,7 @@ fn push_vendor(out: &mut Vec<u8>, vendor: u32) -> Result<(), AllocError>
     if vendor == 0 {
         Ok(())
     } else {
-        out.extend_from_slice(&vendor.to_be_bytes())
+        out.extend_from_slice(&big_endian(vendor))
     }
 }
 

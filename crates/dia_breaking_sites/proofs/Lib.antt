@@ -5,3 +5,5 @@ pub mod SafeMessages
 pub mod SentIsValid
 pub mod Selected
 pub mod Room
+pub mod WiderSenders
+pub mod OpenLevels

@@ -21,7 +21,7 @@ use Rattle.dia_breaking_sites.proofs.Members.{IsIn, contains_in, in_all, all_map
 abbrev pub Body : Unknown → (List DRule → List ℕ → Type 0) → PlainAvp → Option DictEntry → Type 0
 Body u P v o = MatchOption o (IsAccepted u v.flags) (λ e. MHolds e.rule v.flags × MatchOption e.group (IsLeaf e.format v.bytes) (λ group. P group.rules v.bytes))
 
-data_more : (P Q : List DRule → List ℕ → Type 0) (bytes : List ℕ) (X : Type 0) (o : Option PlainDefinition) → ((rules : List DRule) → P rules bytes → Q rules bytes)
+pub data_more : (P Q : List DRule → List ℕ → Type 0) (bytes : List ℕ) (X : Type 0) (o : Option PlainDefinition) → ((rules : List DRule) → P rules bytes → Q rules bytes)
     → MatchOption o X (λ group. P group.rules bytes) → MatchOption o X (λ group. Q group.rules bytes)
 data_more P Q bytes X None f h = h
 data_more P Q bytes X (Some group) f h = f group.rules h

@@ -1,6 +1,7 @@
 -- What the sender's side sends under its dictionary, and which of it breaks under the receiver's.
-use Rattle.std.specs.Prelude.{◌≡◌, ℕ, zero, suc, ◌<◌, List, map, Some, slice_get, IsTrue}
-use Rattle.std.specs.List.{AllByRecursion}
+use Rattle.std.specs.Prelude.{◌≡◌, ◌⊎◌, ℕ, zero, suc, ◌<◌, nat_eq, Bool, true, false, not, ◌&&◌, ◌||◌, List, map, Some, slice_get, IsTrue}
+use Rattle.std.specs.List.{AllByRecursion, list_all, list_any}
+use Rattle.std.specs.Option.{option_eq}
 use Rattle.dia_wire.specs.declared.Header.{Header}
 use Rattle.dia_wire.specs.declared.Key.{Key}
 use Rattle.dia_wire.specs.Wire.{PlainAvp, key_of, SpellsAll, IsMessage}
@@ -9,7 +10,7 @@ use Rattle.dia_book.specs.Dictionary.{Dictionary, PlainDefinition, definitions, 
 use Rattle.dia_terms.specs.declared.Unknown.{Unknown}
 use Rattle.dia_terms.specs.declared.Unknown.TheVariants.{Kept, Refused}
 use Rattle.dia_terms.specs.declared.Levels.TheVariants as levels
-use Rattle.dia_valid.specs.Valid.{HasR, HasE, HasT, class_of, AllowsP, Placed, FitsBy, IsValid, is_listed}
+use Rattle.dia_valid.specs.Valid.{HasR, HasE, HasT, class_of, AllowsP, Placed, FitsBy, IsValid, is_listed, is_wildcard}
 use Rattle.dia_terms.specs.declared.sends.Sends.{Sends}
 use Rattle.dia_terms.specs.declared.sends.Sends.TheVariants as sends
 
@@ -17,7 +18,31 @@ use Rattle.dia_terms.specs.declared.sends.Sends.TheVariants as sends
 abbrev pub own_policy : Sends → Unknown
 own_policy sends.Any = Kept
 own_policy sends.Known = Refused
+own_policy sends.Filled = Refused
 own_policy sends.Listed = Refused
+
+-- ---- wildcards (RFC 6733 section 3.2)
+
+-- the rule's AVP never occurs
+abbrev pub forbids : DRule → Bool
+forbids rule = option_eq nat_eq rule.max (Some 0)
+
+-- the rule is the wildcard, and lets AVPs in without asking for any: `[ AVP ]`
+abbrev pub lets_in_freely : DRule → Bool
+lets_in_freely rule = is_wildcard rule && nat_eq rule.min 0 && not (forbids rule)
+
+-- such a wildcard is the only rule that doesn't forbid: the rules say nothing of the AVPs that occur
+abbrev pub say_nothing : List DRule → Bool
+say_nothing rules = list_any lets_in_freely rules && list_all (λ rule. lets_in_freely rule || forbids rule) rules
+
+-- the sender's side sends AVPs by the wildcard of these rules
+abbrev pub is_open : Sends → List DRule → Bool
+is_open sends.Any rules = true
+is_open sends.Known rules = true
+is_open sends.Filled rules = say_nothing rules
+is_open sends.Listed rules = false
+
+-- ---- levels, AVPs and messages
 
 -- each AVP comes by a rule of its own, and none through the wildcard
 abbrev pub AreListed : List DRule → List Key → Type 0
@@ -25,9 +50,7 @@ AreListed rules keys = AllByRecursion (λ key. IsTrue (is_listed rules key)) key
 
 -- the keys of a level are as the sender's side sends them
 abbrev pub StandAsSent : Sends → List DRule → List Key → Type 0
-StandAsSent sends.Any rules keys = Placed rules keys
-StandAsSent sends.Known rules keys = Placed rules keys
-StandAsSent sends.Listed rules keys = Placed rules keys × AreListed rules keys
+StandAsSent who rules keys = Placed rules keys × (IsTrue (is_open who rules) ⊎ AreListed rules keys)
 
 -- the bytes are AVPs that are sent so, and each has P
 abbrev pub IsSentLevel : Sends → (PlainAvp → Type 0) → List DRule → List ℕ → Type 0
@@ -66,3 +89,12 @@ pub record IsSent (d : Dictionary) (who : Sends) (bytes : List ℕ) (c : ℕ) : 
 -- such a message that isn't valid under the receiver's dictionary, with this policy for unknown AVPs
 abbrev pub Breaks : Dictionary → Dictionary → Sends → Unknown → List ℕ → ℕ → Type 0
 Breaks da db who u bytes c = IsSent da who bytes c × (¬ IsValid db u levels.Any bytes)
+
+-- ---- senders
+
+-- the sender that sends the next more
+abbrev pub wider : Sends → Sends
+wider sends.Listed = sends.Filled
+wider sends.Filled = sends.Known
+wider sends.Known = sends.Any
+wider sends.Any = sends.Any

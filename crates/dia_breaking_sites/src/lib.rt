@@ -5,12 +5,14 @@
 //! the caller.
 #![tactic(auto)]
 
+mod open;
 mod safe;
 mod sent;
 
 pub use dia_terms::Sends;
+pub use open::is_open;
 pub use safe::{
     few_headers_report, levels_are_read, levels_keep_to_room, safe_sites_include,
     safe_sites_read_levels,
 };
-pub use sent::{sent_is_valid, valid_is_sent};
+pub use sent::{sent_is_valid, valid_is_sent, wider_sends_more};

@@ -3,7 +3,7 @@
 use dia_ccf::parse;
 use dia_dict::{IndexedBook, PlainBook, resolve};
 use dia_rows::{Names, RowFault};
-use dia_terms::Sends;
+use dia_terms::{Sends, Unknown};
 use dia_wire::Key;
 use std::alloc::Global;
 use std::process::Abort;
@@ -34,7 +34,22 @@ pub fn sends_of(word: &str) -> Result<Sends, RowFault> {
     match word {
         "any" => Ok(Sends::Any),
         "known" => Ok(Sends::Known),
+        "filled" => Ok(Sends::Filled),
         "listed" => Ok(Sends::Listed),
+        _ => Err(RowFault::Row),
+    }
+}
+
+/// What the side of A sends, and the policy of the side of B.
+pub fn sides_of(words: &str) -> Result<(Sends, Unknown), RowFault> {
+    let (sends, policy) = words.split_once(' ').ok_or(RowFault::Row)?;
+    Ok((sends_of(sends)?, policy_of(policy)?))
+}
+
+fn policy_of(word: &str) -> Result<Unknown, RowFault> {
+    match word {
+        "kept" => Ok(Unknown::Kept),
+        "refused" => Ok(Unknown::Refused),
         _ => Err(RowFault::Row),
     }
 }

@@ -7,11 +7,10 @@
 //! A and B are dictionaries that have X, or don't know it; POLICY is that of B's side for AVPs that B doesn't know. `-` is the
 //! answer where each flag that is sent is accepted.
 
-use crate::books::{X, indexed_of, plain_of, same, sends_of};
+use crate::books::{X, indexed_of, plain_of, same, sides_of};
 use dia_breaking_avps::{HeadBreak, avp_breaks};
 use dia_dict::Book;
-use dia_rows::{Names, Row, RowFault, field};
-use dia_terms::{Sends, Unknown};
+use dia_rows::{Names, Row, field};
 use std::process::Abort;
 use std::test::Fail;
 
@@ -88,20 +87,6 @@ fn recorded(head: Option<HeadBreak>) -> &'static str {
         Some(HeadBreak::Unknown { m: true }) => "unknown set",
         Some(HeadBreak::MBit { m: false }) => "m-bit clear",
         Some(HeadBreak::MBit { m: true }) => "m-bit set",
-    }
-}
-
-/// What the side of A sends, and the policy of the side of B.
-fn sides_of(words: &str) -> Result<(Sends, Unknown), RowFault> {
-    let (sends, policy) = words.split_once(' ').ok_or(RowFault::Row)?;
-    Ok((sends_of(sends)?, policy_of(policy)?))
-}
-
-fn policy_of(word: &str) -> Result<Unknown, RowFault> {
-    match word {
-        "kept" => Ok(Unknown::Kept),
-        "refused" => Ok(Unknown::Refused),
-        _ => Err(RowFault::Row),
     }
 }
 

@@ -1,5 +1,6 @@
-//! The tests of what breaks between two dictionaries, by public calls alone: `worked`, `meanings` and `budgets` of dia_breaking,
-//! `formats` and `flags` of dia_breaking_avps, and `ways` of dia_breaking_ways. There is nothing but tests.
+//! The tests of what breaks between two dictionaries, by public calls alone: `worked`, `senders`, `meanings`, `budgets` and
+//! `refusals` of dia_breaking, `formats` and `flags` of dia_breaking_avps, `ways` of dia_breaking_ways, and `unsent` of
+//! dia_unsent. There is nothing but tests.
 #![tactic(auto)]
 
 #[cfg(test)]
@@ -12,6 +13,12 @@ mod flags;
 mod formats;
 #[cfg(test)]
 mod meanings;
+#[cfg(test)]
+mod refusals;
+#[cfg(test)]
+mod senders;
+#[cfg(test)]
+mod unsent;
 #[cfg(test)]
 mod ways;
 #[cfg(test)]

@@ -6,7 +6,7 @@
 //! SENDS | A | B => LINES
 //! ```
 //!
-//! SENDS is `any`, `known` or `listed`; the side of B accepts unknown AVPs. Blanks in a message count for nothing, and a long one
+//! SENDS is `any`, `known`, `filled` or `listed`; the side of B accepts unknown AVPs. Blanks in a message count for nothing, and a long one
 //! isn't made, but given by its length. Each row is asked of each pair of books.
 
 use crate::books::{indexed_of, plain_of, same, sends_of};

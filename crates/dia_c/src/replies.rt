@@ -29,10 +29,10 @@ pub extern "C" fn dia_answer(
         ⊎ (result ≡ BAD_ARGUMENT) }
     ensures kept_dict { handle.new.slot.seal.held ≡ handle.old.slot.seal.held }
     ensures done { result ≡ DONE → IfSome (dict_in handle.old.slot.seal.held) (λ d. IfSome (text_in bytes.new.slot.seal.held)
-        (λ made. IsAnswered d (policy_of unknown) (limit_of levels) message.now made form.new verdict.new)) }
+        (λ made. IsAnswered d (policy_of unknown) (limit_of levels) host.now realm.now message.now made form.new verdict.new)) }
     ensures is_open { result ≡ DONE → IsSome (text_in bytes.new.slot.seal.held) }
     ensures none { result ≡ NONE → IfSome (dict_in handle.old.slot.seal.held)
-        (λ d. IsUnanswered d (policy_of unknown) (limit_of levels) message.now) }
+        (λ d. IsUnanswered d (policy_of unknown) (limit_of levels) host.now realm.now message.now) }
     ensures checked { (result ≡ DONE) ⊎ (result ≡ NONE) → IfSome (dict_in handle.old.slot.seal.held)
         (λ d. Answers d unknown levels message.now verdict.new) }
     ensures kept { result ≢ DONE → bytes.new.slot.seal.held ≡ bytes.old.slot.seal.held }

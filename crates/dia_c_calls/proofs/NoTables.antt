@@ -2,9 +2,9 @@
 use Rattle.std.proofs.Common.{◌≡◌, ◌≢◌, ℕ, ◌<◌, ◌≤◌, List, length, inl, inr, ap, ◌∙◌}
 use Rattle.std.specs.Str.{IsUtf8}
 use Rattle.std.proofs.lemmas.Bool.{cases_lt}
-use Rattle.dia_tables.specs.declared.TableFault.{TableFault}
-use Rattle.dia_tables.specs.declared.TableFault.TheVariants as table
-use Rattle.dia_tables.specs.TableText.{IsTableFault, max_table}
+use Rattle.dia_compat.specs.declared.TableFault.{TableFault}
+use Rattle.dia_compat.specs.declared.TableFault.TheVariants as table
+use Rattle.dia_compat.specs.TableText.{IsTableFault, max_table}
 use Rattle.dia_c_calls.specs.declared.opening.Problem.{Problem}
 use Rattle.dia_c_calls.specs.Comparisons.{IsNoTable, table_problem}
 

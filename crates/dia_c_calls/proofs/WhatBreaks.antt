@@ -16,8 +16,8 @@ use Rattle.dia_book.proofs.Members.{position-is_some}
 use Rattle.dia_valid.proofs.Members.{IsIn, contains_in, in_at, in_contains}
 use Rattle.dia_accepted.specs.declared.Recorded.{Recorded}
 use Rattle.dia_accepted.proofs.Lists.{line_at, taken}
-use Rattle.dia_inclusion.specs.Closed.{NamesCommand}
-use Rattle.dia_inclusion.specs.Proposed.{IsFirstUnknown}
+use Rattle.dia_compat.specs.Closed.{NamesCommand}
+use Rattle.dia_compat.specs.Proposed.{IsFirstUnknown}
 use Rattle.dia_io.specs.declared.Input.{Input}
 use Rattle.dia_io.specs.declared.Exit.{Exit}
 use Rattle.dia_io.specs.declared.Exit.TheVariants.{Yes, No, Bad}

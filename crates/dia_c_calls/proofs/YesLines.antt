@@ -2,11 +2,11 @@
 use Rattle.std.proofs.Common.{◌≡◌, List, ℕ, refl}
 use Rattle.dia_terms.specs.declared.Unknown.{Unknown}
 use Rattle.dia_book.specs.Dictionary.{Dictionary}
-use Rattle.dia_inclusion.specs.declared.Answer.{Answer}
-use Rattle.dia_inclusion.specs.declared.Answer.TheVariants as answer
-use Rattle.dia_inclusion.specs.declared.PairKind.TheVariants as pair
-use Rattle.dia_tables.specs.TableText.{PlainTable}
-use Rattle.dia_inclusion.specs.Closed.{IsTableAnswer, IsIncluded}
+use Rattle.dia_compat.specs.declared.Answer.{Answer}
+use Rattle.dia_compat.specs.declared.Answer.TheVariants as answer
+use Rattle.dia_compat.specs.declared.PairKind.TheVariants as pair
+use Rattle.dia_compat.specs.TableText.{PlainTable}
+use Rattle.dia_compat.specs.Closed.{IsTableAnswer, IsIncluded}
 use Rattle.dia_io.specs.declared.Exit.{Exit}
 use Rattle.dia_io.specs.declared.Exit.TheVariants.{Yes, No}
 use Rattle.dia_run.specs.Pairs.{IsAnswerText}

@@ -3,11 +3,11 @@ use Rattle.std.specs.Prelude.{◌≡◌, ◌≢◌, ◌<◌, ◌≤◌, ◌==◌
 use Rattle.std.specs.Str.{IsUtf8}
 use Rattle.dia_terms.specs.declared.Unknown.{Unknown}
 use Rattle.dia_book.specs.Dictionary.{Dictionary}
-use Rattle.dia_inclusion.specs.declared.Answer.{Answer}
-use Rattle.dia_tables.specs.declared.TableFault.{TableFault}
-use Rattle.dia_tables.specs.declared.TableFault.TheVariants as table
-use Rattle.dia_tables.specs.TableText.{PlainTable, IsTable, IsTableFault, max_table}
-use Rattle.dia_inclusion.specs.Closed.{IsIncluded, IsTableAnswer}
+use Rattle.dia_compat.specs.declared.Answer.{Answer}
+use Rattle.dia_compat.specs.declared.TableFault.{TableFault}
+use Rattle.dia_compat.specs.declared.TableFault.TheVariants as table
+use Rattle.dia_compat.specs.TableText.{PlainTable, IsTable, IsTableFault, max_table}
+use Rattle.dia_compat.specs.Closed.{IsIncluded, IsTableAnswer}
 use Rattle.dia_explain_places.specs.Tables.{limit_place, syntax_place}
 use Rattle.dia_io.specs.declared.Exit.{Exit}
 use Rattle.dia_io.specs.declared.Exit.TheVariants.{Yes, No, Bad}

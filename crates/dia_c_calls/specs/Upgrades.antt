@@ -6,7 +6,7 @@ use Rattle.dia_terms.specs.declared.Sends.{Sends}
 use Rattle.dia_terms.specs.declared.Sends.TheVariants as sends
 use Rattle.dia_book.specs.Dictionary.{Dictionary}
 use Rattle.dia_accepted.specs.Accepted.{PlainEntry, max_list}
-use Rattle.dia_inclusion.specs.Proposed.{IsFirstUnknown}
+use Rattle.dia_compat.specs.Proposed.{IsFirstUnknown}
 use Rattle.dia_io.specs.declared.Input.{Input}
 use Rattle.dia_io.specs.declared.Exit.{Exit}
 use Rattle.dia_io.specs.declared.Exit.TheVariants.{Bad}
@@ -28,14 +28,14 @@ use Rattle.dia_c_calls.specs.Verdicts.{IsUnknownPolicy, policy_of}
 -- ---- what is wanted, as numbers
 
 abbrev pub IsSender : ℕ → Type 0
-IsSender n = (n ≡ 0) ⊎ (n ≡ 1) ⊎ (n ≡ 2)
+IsSender n = (n ≡ 0) ⊎ (n ≡ 1) ⊎ (n ≡ 2) ⊎ (n ≡ 3)
 
 abbrev pub AreNumbers : ℕ → ℕ → ℕ → Type 0
 AreNumbers sends unknown options = IsSender sends × IsUnknownPolicy unknown × (options < 8)
 
--- 1 sends what it knows, 2 what it lists, and any other number all
+-- 1 sends what it knows, 2 what it lists, 3 what it lists or fills, and any other number all
 abbrev pub sender_of : ℕ → Sends
-sender_of n = if nat_eq n 1 then sends.Known else (if nat_eq n 2 then sends.Listed else sends.Any)
+sender_of n = if nat_eq n 1 then sends.Known else (if nat_eq n 2 then sends.Listed else (if nat_eq n 3 then sends.Filled else sends.Any))
 
 -- the options are 1, 2 and 4, and are added up
 abbrev pub has_option : ℕ → ℕ → Bool

@@ -1,7 +1,7 @@
 //! Two dictionaries compared by the text of a table of pairs.
 
 ghost use Rattle.std.specs.Prelude.{◌≡◌, ◌≢◌, IfErr, IfOk, IfSome, IsSome, Some, string_bytes};
-ghost use Rattle.dia_tables.specs.TableText.{plain_table};
+ghost use Rattle.dia_compat.specs.TableText.{plain_table};
 ghost use Rattle.dia_c_calls.specs.Comparisons.{HasCompared, IsCompared, IsComparedBy, IsNoTable, table_problem};
 ghost use Rattle.dia_c_calls.specs.Held.{MayBeText, text_in};
 
@@ -9,9 +9,8 @@ use crate::opening::{NOT_TEXT, Problem, Refused};
 use crate::outcomes::{AnswerText, answer_text};
 use dia_book::Book;
 use dia_check::Unknown;
-use dia_inclusion::check_table;
+use dia_compat::{Table, TableFault, check_table, parse_table};
 use dia_run::{Outcome, recorded_answer};
-use dia_tables::{Table, TableFault, parse_table};
 use std::alloc::Global;
 
 /// What `diacmd compare` answers for two dictionaries and the text of a table.

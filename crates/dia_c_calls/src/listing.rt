@@ -13,12 +13,15 @@ use dia_report::Refused;
 use dia_run::show_message;
 use dia_wire::split_message;
 use std::alloc::{AllocError, Global};
+use thiserror::Error;
 
 /// Why there are no lines.
-#[derive(Drop)]
+#[derive(Debug, Drop, Error)]
 pub enum Unshown {
     /// The bytes are no message.
+    #[error("no message")]
     NoMessage(Verdict),
+    #[error("out of memory")]
     NoMemory,
 }
 

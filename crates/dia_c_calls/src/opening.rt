@@ -15,10 +15,11 @@ use dia_check::Room;
 use dia_dict::{DictFault, DictKind, IndexedBook, PlainBook, base_book, resolve};
 use std::alloc::{AllocError, AllocFailed, Global};
 use std::sync::Arc;
+use thiserror::Error;
 
 /// Why a text is no dictionary.
 #[repr(C)]
-#[derive(Clone, Copy, PartialEq, Eq)]
+#[derive(Clone, Copy, Debug, PartialEq, Eq)]
 pub struct Problem {
     /// Which kind it is.
     pub kind: u32,
@@ -36,9 +37,11 @@ pub const NOT_TEXT: Problem = Problem {
 };
 
 /// Why there is no dictionary.
-#[derive(Drop)]
+#[derive(Debug, Drop, Error)]
 pub enum Refused {
+    #[error("the text is no dictionary")]
     Bad(Problem),
+    #[error("out of memory")]
     NoMemory,
 }
 
@@ -113,7 +116,7 @@ fn named(alloc: Global, source: Source) -> Result<Box<Held>, Refused>
 {
     match resolve(alloc, source) {
         Ok(book) => indexed(alloc, book),
-        Err(DictFault::Occurs { kind, .. }) => Err(Refused::Bad(Problem {
+        Err(DictFault::Stands { kind, .. }) => Err(Refused::Bad(Problem {
             kind: kind_number(kind),
             line: 0,
             token: 0,

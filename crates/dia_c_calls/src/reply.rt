@@ -34,6 +34,7 @@ pub enum Reply {
 /// These names, if both are DiameterIdentities of at most 255 bytes.
 pub fn names_of<'a>(host: &'a [u8], realm: &'a [u8]) -> Option<Names<'a>>
     ensures some { IfSome result (λ _. IsName host.now × IsName realm.now) }
+    ensures same { IfSome result (λ names. (names.host.now ≡ host.now) × (names.realm.now ≡ realm.now)) }
     ensures none { result ≡ None → ¬ (IsName host.now × IsName realm.now) }
 {
     let Ok(host) = str::from_utf8(host) else {
@@ -58,13 +59,13 @@ pub fn reply_to<B: Book>(
     message: &[u8],
 ) -> Result<Reply, AllocError>
     ensures made { IfOk result (λ found. (a : Answered) → found ≡ Reply.Made a → IfSome (text_in (Some a.text.value))
-        (λ bytes. IsAnswered (B.meaning book.now) unknown levels message.now bytes a.form a.verdict)) }
+        (λ bytes. IsAnswered (B.meaning book.now) unknown levels names.now.host.now names.now.realm.now message.now bytes a.form a.verdict)) }
     ensures is_text { IfOk result (λ found. (a : Answered) → found ≡ Reply.Made a
         → IsSome (text_in (Some a.text.value)) × ∥ MayBeText (Some a.text.value) ∥₁) }
     ensures checked { IfOk result (λ found. (a : Answered) → found ≡ Reply.Made a
         → IsVerdictOn (B.meaning book.now) unknown levels message.now a.verdict) }
     ensures none { IfOk result (λ found. (v : AnyVerdict) → found ≡ Reply.None v
-        → IsUnanswered (B.meaning book.now) unknown levels message.now
+        → IsUnanswered (B.meaning book.now) unknown levels names.now.host.now names.now.realm.now message.now
         × IsVerdictOn (B.meaning book.now) unknown levels message.now v) }
 {
     match answer(alloc, book, unknown, levels, names, message)? {

@@ -5,7 +5,7 @@ ghost use Rattle.std.specs.Prelude.{IfErr, IfOk, IfSome, IsSome, None, Some};
 ghost use Rattle.std.specs.Str.{bytes_eq};
 ghost use Rattle.std.specs.Str.Lines.{lines};
 ghost use Rattle.dia_accepted.specs.Accepted.{max_list};
-ghost use Rattle.dia_inclusion.specs.Proposed.{IsFirstUnknown};
+ghost use Rattle.dia_compat.specs.Proposed.{IsFirstUnknown};
 ghost use Rattle.dia_io.specs.Inputs.{IsWhole};
 ghost use Rattle.dia_upgrades.specs.Asking.{names_of};
 ghost use Rattle.dia_upgrades.specs.InWords.{in_words};

@@ -12,10 +12,12 @@ use dia_check::{
 };
 use dia_wire::{HeadFault, Header, MessageFault, read_header};
 use std::alloc::{AllocError, Global};
+use thiserror::Error;
 
 /// What is said of a message.
 #[repr(C)]
-#[derive(Clone, Copy, PartialEq, Eq)]
+#[derive(Clone, Copy, Debug, PartialEq, Eq, Error)]
+#[error("outcome {outcome}, code {code}")]
 pub struct Verdict {
     /// 0: valid. 1: a fault. 2: truncated. 3: trailing.
     pub outcome: u32,
@@ -113,10 +115,12 @@ pub fn verdict_on<B: Book>(
 }
 
 /// Why there is no verdict.
-#[derive(Clone, Copy)]
+#[derive(Clone, Copy, Debug, Error)]
 pub enum Unrecorded {
+    #[error("out of memory")]
     NoMemory,
     /// The stream was refused memory before.
+    #[error("the stream was refused memory before")]
     Spent,
 }
 

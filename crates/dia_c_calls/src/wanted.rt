@@ -50,6 +50,7 @@ fn sender_of(sends: u32) -> Option<Sends>
         0 => Some(Sends::Any),
         1 => Some(Sends::Known),
         2 => Some(Sends::Listed),
+        3 => Some(Sends::Filled),
         _ => None,
     }
 }

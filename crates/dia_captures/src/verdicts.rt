@@ -10,6 +10,7 @@ use dia_dict::Book;
 use dia_io::Exit;
 use dia_run::push_subject;
 use std::alloc::AllocError;
+use thiserror::Error;
 
 /// What `check` finds of a message.
 #[derive(Clone, Copy, PartialEq, Eq)]
@@ -20,17 +21,22 @@ pub enum Checked {
 }
 
 /// What is wrong with a message, or with its text.
-#[derive(Clone, Copy, PartialEq, Eq)]
+#[derive(Clone, Copy, Debug, PartialEq, Eq, Error)]
 pub enum Flaw {
     /// Its first fault.
+    #[error("the message has a fault")]
     Fault(Fault),
     /// Fewer bytes than a header, or than the Message Length.
+    #[error("the message is truncated")]
     Truncated,
     /// More bytes than the Message Length.
+    #[error("bytes follow the message")]
     Trailing,
     /// A text above the limit.
+    #[error("the text is too long")]
     TooLong,
     /// A text that isn't hexadecimal.
+    #[error("the text is not hexadecimal")]
     NotHexadecimal,
 }
 

@@ -11,7 +11,7 @@
 //! assert_eq!(rt; render(alloc, &source)?.as_str(), canonical);
 //!
 //! let fault = parse(alloc, "%avp Origin-Host\nDiameterIdentity").err();
-//! assert_eq!(rt; fault, Some(CcfFault::Syntax { token: 3, line: 2 }));
+//! assert!(rt; matches!(fault, Some(CcfFault::Syntax { token: 3, line: 2 })));
 //! ```
 #![tactic(auto)]
 

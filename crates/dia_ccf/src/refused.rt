@@ -4,16 +4,28 @@ ghost use Rattle.dia_ccf.specs.Refusals.{fault_of};
 
 use crate::fault::CcfFault;
 use crate::wanted::Wanted;
+use std::fmt;
+use thiserror::Error;
 
 /// Why a text is no dictionary, and where.
-#[derive(Clone, Copy)]
+#[derive(Clone, Copy, Error)]
 pub enum Refused {
     /// The text is longer than [`MAX_TEXT`](crate::MAX_TEXT).
+    #[error("the text is too long")]
     TooLong,
     /// Memory was refused.
+    #[error("out of memory")]
     NoMemory,
     /// A token doesn't fit where it is, or the text can't end where it ends.
+    #[error("{}", .0.fault)]
     At(Misfit),
+}
+
+/// Prints as `Display` does.
+impl fmt::Debug for Refused {
+    fn fmt<W: fmt::Write>(&self, f: &mut fmt::Formatter<W>) -> fmt::Result {
+        fmt::Display::fmt(self, f)
+    }
 }
 
 /// The first token with which no text of the grammar begins, or the end of the text.

@@ -28,5 +28,6 @@ pub mod StreamBodies
 pub mod StreamStages
 pub mod LevelsAtPlaces
 pub mod StreamLevels
+pub mod WholeMessages
 pub mod Pauses
 pub mod KindsOfRefusal

@@ -1,5 +1,5 @@
 -- A stream that was paused and resumed has taken what it had taken.
-use Rattle.std.proofs.Common.{◌≡◌, ℕ, ◌+◌, ◌-◌, ◌<◌, ◌↔◌, List, take, subst, sym, ap, ◌∙◌}
+use Rattle.std.proofs.Common.{◌≡◌, ℕ, ◌+◌, ◌-◌, ◌<◌, List, take, subst, sym, ap, ◌∙◌}
 use Rattle.dia_book.specs.Dictionary.{Dictionary}
 use Rattle.dia_terms.specs.declared.Unknown.{Unknown}
 use Rattle.dia_terms.specs.declared.Levels.{Levels}
@@ -10,8 +10,6 @@ use Rattle.dia_check.specs.declared.stream.stages.Body.{Body}
 use Rattle.dia_check.specs.declared.stream.parts.Part.{Part}
 use Rattle.dia_check.specs.declared.stream.parts.Part.TheVariants as part
 use Rattle.dia_check.specs.declared.stream.parts.DataPart.{DataPart}
-use Rattle.dia_check.specs.declared.stream.paused.PausedStage.{PausedStage}
-use Rattle.dia_check.specs.declared.stream.paused.PausedStage.TheVariants as paused
 use Rattle.dia_check.specs.declared.stream.paused.PausedData.{PausedData}
 use Rattle.dia_wire.specs.Wire.{head_length}
 use Rattle.dia_check.specs.declared.stream.paused.PausedBody.{PausedBody}
@@ -20,7 +18,7 @@ use Rattle.dia_check.specs.declared.stream.paused.PausedPart.TheVariants as piec
 use Rattle.dia_check.specs.Faults.{HasGoodHeader}
 use Rattle.dia_check.specs.Reading.{HasSeen, IsInHead, IsInData, IsInPart}
 use Rattle.dia_check.specs.Streaming.{HasRead, HasTaken, IsReading, IsSpentStage, IsStage}
-use Rattle.dia_check.specs.Pauses.{HasSeenPaused, IsPauseOf, IsPauseOfBody, IsPauseOfData, IsPauseOfPart, IsResumeOf, IsResumeOfBody, IsResumeOfData, IsResumeOfPart, IsSpentPaused}
+use Rattle.dia_check.specs.Pauses.{HasSeenPaused, IsPauseOf, IsPauseOfData, IsPauseOfPart, IsResumeOf, IsResumeOfData, IsResumeOfPart}
 
 leaf_goes : (d : Dictionary) (x : DataPart) (p : PausedData) (y : DataPart) (read : List ℕ) → IsPauseOfData d x p → IsResumeOfData d p y → HasSeen d x.leaf x.key read → HasSeen d y.leaf x.key read
 leaf_goes d x p y read pause resume seen =
@@ -55,7 +53,7 @@ part_goes d u most bytes good o n (part.Head x) (piece.Head p) (part.Data y) pau
 part_goes d u most bytes good o n (part.Data x) (piece.Data p) (part.Head y) pause resume h = absurd resume
 
 reading_goes : (d : Dictionary) (u : Unknown) (most : Levels) (bytes : List ℕ) (n : ℕ) (x : Body) (p : PausedBody) (y : Body)
-    → IsPauseOfBody d x p → IsResumeOfBody d p y → IsReading d u most x n bytes → IsReading d u most y n bytes
+    → IsPauseOf d x p → IsResumeOf d p y → IsReading d u most x n bytes → IsReading d u most y n bytes
 reading_goes d u most bytes n x p y pause resume h =
     let (good, is, in_part) = h in (
       good,
@@ -64,56 +62,37 @@ reading_goes d u most bytes n x p y pause resume h =
           (part_goes d u most bytes good x.open_levels n x.part p.part y.part pause.part resume.part in_part),
     )
 
-read_goes : (d : Dictionary) (u : Unknown) (most : Levels) (bytes : List ℕ) (x : Stage) (p : PausedStage) (y : Stage)
-    → IsPauseOf d x p → IsResumeOf d p y → HasRead d u most bytes x → HasRead d u most bytes y
-read_goes d u most bytes (stage.Header x) p y pause resume h = subst (HasRead d u most bytes) (sym (subst (λ q. IsResumeOf d q y) pause resume)) h
-read_goes d u most bytes (stage.Over x) p y pause resume h = subst (HasRead d u most bytes) (sym (subst (λ q. IsResumeOf d q y) pause resume)) h
-read_goes d u most bytes stage.NoMemory p y pause resume h = absurd h
-read_goes d u most bytes (stage.InBody x) p y pause resume h =
-    let (b, is, of_body) = pause in
-    let (c, is_body, to_body) = subst (λ q. IsResumeOf d q y) is resume in
+read_goes : (d : Dictionary) (u : Unknown) (most : Levels) (bytes : List ℕ) (x : Body) (p : PausedBody) (y : Body) (s : Stage)
+    → IsPauseOf d x p → IsResumeOf d p y → HasRead d u most bytes x s → HasRead d u most bytes y s
+read_goes d u most bytes x p y (stage.Header front) pause resume h = h
+read_goes d u most bytes x p y (stage.Over answer) pause resume h = h
+read_goes d u most bytes x p y stage.NoMemory pause resume h = h
+read_goes d u most bytes x p y stage.InBody pause resume h =
     let (long, sound, short, however) = h in
-    subst (HasRead d u most bytes) (sym is_body) (long, sound, short, λ more size. reading_goes d u most _ _ x b c of_body to_body (however more size))
+    (long, sound, short, λ more size. reading_goes d u most _ _ x p y pause resume (however more size))
 
 -- what was taken stays taken
-pub taken_goes : (d : Dictionary) (u : Unknown) (most : Levels) (taken all : ℕ) (bytes : List ℕ) (x : Stage) (p : PausedStage) (y : Stage)
-    → IsPauseOf d x p → IsResumeOf d p y → HasTaken d u most taken all x bytes → HasTaken d u most taken all y bytes
-taken_goes d u most taken all bytes x p y pause resume h = record {
+pub taken_goes : (d : Dictionary) (u : Unknown) (most : Levels) (taken all : ℕ) (bytes : List ℕ) (x : Body) (p : PausedBody) (y : Body) (s : Stage)
+    → IsPauseOf d x p → IsResumeOf d p y → HasTaken d u most taken all x s bytes → HasTaken d u most taken all y s bytes
+taken_goes d u most taken all bytes x p y s pause resume h = record {
   sound = h.sound;
   count = h.count;
   wants = h.wants;
   few = h.few;
   within = h.within;
-  read = read_goes d u most bytes x p y pause resume h.read;
+  read = read_goes d u most bytes x p y s pause resume h.read;
 }
 
-pub stage_goes : (d : Dictionary) (u : Unknown) (most : Levels) (taken all : ℕ) (x : Stage) (p : PausedStage) (y : Stage)
-    → IsPauseOf d x p → IsResumeOf d p y → IsStage d u most taken all x → IsStage d u most taken all y
-stage_goes d u most taken all (stage.Header x) p y pause resume h = subst (IsStage d u most taken all) (sym (subst (λ q. IsResumeOf d q y) pause resume)) h
-stage_goes d u most taken all (stage.Over x) p y pause resume h = subst (IsStage d u most taken all) (sym (subst (λ q. IsResumeOf d q y) pause resume)) h
-stage_goes d u most taken all stage.NoMemory p y pause resume h = subst (IsStage d u most taken all) (sym (subst (λ q. IsResumeOf d q y) pause resume)) h
-stage_goes d u most taken all (stage.InBody x) p y pause resume h =
-    let (b, is, of_body) = pause in
-    let (c, is_body, to_body) = subst (λ q. IsResumeOf d q y) is resume in
-    let (bytes, taken_x) = h in
-    subst (IsStage d u most taken all) (sym is_body) (bytes, subst (λ s. HasTaken d u most taken all s bytes) is_body (taken_goes d u most taken all bytes (stage.InBody x) p y pause resume taken_x))
+pub stage_goes : (d : Dictionary) (u : Unknown) (most : Levels) (taken all : ℕ) (x : Body) (p : PausedBody) (y : Body) (s : Stage)
+    → IsPauseOf d x p → IsResumeOf d p y → IsStage d u most taken all x s → IsStage d u most taken all y s
+stage_goes d u most taken all x p y stage.NoMemory pause resume h = tt
+stage_goes d u most taken all x p y (stage.Header front) pause resume (bytes, h) = (bytes, taken_goes d u most taken all bytes x p y (stage.Header front) pause resume h)
+stage_goes d u most taken all x p y (stage.Over answer) pause resume (bytes, h) = (bytes, taken_goes d u most taken all bytes x p y (stage.Over answer) pause resume h)
+stage_goes d u most taken all x p y stage.InBody pause resume (bytes, h) = (bytes, taken_goes d u most taken all bytes x p y stage.InBody pause resume h)
 
 -- memory was not refused where something was read
-pub not_spent : (d : Dictionary) (u : Unknown) (most : Levels) (bytes : List ℕ) (s : Stage) → HasRead d u most bytes s → ¬ IsSpentStage s
-not_spent d u most bytes stage.NoMemory read spent = absurd read
-not_spent d u most bytes (stage.Header x) read spent = absurd spent
-not_spent d u most bytes (stage.Over x) read spent = absurd spent
-not_spent d u most bytes (stage.InBody x) read spent = absurd spent
-
--- a stream is spent while it is paused exactly where it was spent before, and then so is the resumed one
-pub pause_spent : (d : Dictionary) (x : Stage) (p : PausedStage) → IsPauseOf d x p → IsSpentPaused p ↔ IsSpentStage x
-pause_spent d (stage.Header x) p is = subst (λ q. IsSpentPaused q ↔ IsSpentStage (stage.Header x)) (sym is) (λ h. h, λ h. h)
-pause_spent d (stage.Over x) p is = subst (λ q. IsSpentPaused q ↔ IsSpentStage (stage.Over x)) (sym is) (λ h. h, λ h. h)
-pause_spent d stage.NoMemory p is = subst (λ q. IsSpentPaused q ↔ IsSpentStage stage.NoMemory) (sym is) (λ h. h, λ h. h)
-pause_spent d (stage.InBody x) p (b, is, of) = subst (λ q. IsSpentPaused q ↔ IsSpentStage (stage.InBody x)) (sym is) (λ h. h, λ h. h)
-
-pub resume_spent : (d : Dictionary) (p : PausedStage) (x : Stage) → IsResumeOf d p x → IsSpentStage x ↔ IsSpentPaused p
-resume_spent d (paused.Header p) x is = subst (λ q. IsSpentStage q ↔ IsSpentPaused (paused.Header p)) (sym is) (λ h. h, λ h. h)
-resume_spent d (paused.Over p) x is = subst (λ q. IsSpentStage q ↔ IsSpentPaused (paused.Over p)) (sym is) (λ h. h, λ h. h)
-resume_spent d paused.NoMemory x is = subst (λ q. IsSpentStage q ↔ IsSpentPaused paused.NoMemory) (sym is) (λ h. h, λ h. h)
-resume_spent d (paused.InBody p) x (b, is, of) = subst (λ q. IsSpentStage q ↔ IsSpentPaused (paused.InBody p)) (sym is) (λ h. h, λ h. h)
+pub not_spent : (d : Dictionary) (u : Unknown) (most : Levels) (bytes : List ℕ) (body : Body) (s : Stage) → HasRead d u most bytes body s → ¬ IsSpentStage s
+not_spent d u most bytes body stage.NoMemory read spent = absurd read
+not_spent d u most bytes body (stage.Header front) read spent = absurd spent
+not_spent d u most bytes body (stage.Over answer) read spent = absurd spent
+not_spent d u most bytes body stage.InBody read spent = absurd spent

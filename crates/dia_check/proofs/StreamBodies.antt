@@ -51,19 +51,19 @@ module _ (d : Dictionary) (sound : IsDictionary d) (u : Unknown) (most : Levels)
   still_whole (Err refusal.Spent) long within h = absurd h
 
   -- a stage in which no body is read stays as it is
-  pub still_stage : (Memory : Type 0) (stage : Stage) → ((body : Body) → stage ≢ InBody body) → MayRead d u most bytes stage from piece → HasReadUnless Memory d u most now stage
-  still_stage Memory (Header front) none may = let (short, kept) = may.read in let long = may.long in absurd (omega (arith, short, long))
-  still_stage Memory (InBody body) none may = absurd (none body refl)
-  still_stage Memory (Over answer) none may =
+  pub still_stage : (Memory : Type 0) (body : Body) (stage : Stage) → stage ≢ InBody → MayRead d u most bytes body stage from piece → HasReadUnless Memory d u most now body stage
+  still_stage Memory body (Header front) none may = let (short, kept) = may.read in let long = may.long in absurd (omega (arith, short, long))
+  still_stage Memory body InBody none may = absurd (none refl)
+  still_stage Memory body (Over answer) none may =
       let (long, whole_answer, however) = may.read in (
         let more = length-append bytes piece in omega (arith, more, long),
         still_whole answer long may.within whole_answer,
         however_on
             (λ (all : List ℕ). IsAnswer d u most all answer) bytes piece long however,
       )
-  still_stage Memory NoMemory none may = absurd may.read
+  still_stage Memory body NoMemory none may = absurd may.read
 
-  module _ (body : Body) (may : MayRead d u most bytes (InBody body) from piece) where
+  module _ (body : Body) (may : MayRead d u most bytes body InBody from piece) where
     pub long_now : 20 ≤ length now
     long_now = let more = length-append bytes piece in let long = may.long in omega (arith, more, long)
 
@@ -90,7 +90,7 @@ module _ (d : Dictionary) (sound : IsDictionary d) (u : Unknown) (most : Levels)
     pub still_reads : (after : Body) → after.def ≡ body.def
         → ((all : List ℕ) (good : HasGoodHeader d all) → IsInPart d u most all good body.open_levels body.part from
         → LiesAt all from piece → IsInPart d u most all good after.open_levels after.part (from + length piece))
-        → HasRead d u most now (InBody after)
+        → HasRead d u most now after InBody
     still_reads after same reads = (long_now, sound_now, less, λ more size. each more size)
       where
         each : (more : List ℕ) → length (now ++ more) ≡ wanted now → IsReading d u most after (length now) (now ++ more)
@@ -103,11 +103,11 @@ module _ (d : Dictionary) (sound : IsDictionary d) (u : Unknown) (most : Levels)
             let (good, is, part) = each (zeros_to_end now) end_now in
             let l = part_within d sound u most (now ++ zeros_to_end now) good after.open_levels after.part (length now) part in omega (arith, l, end_now)
 
-    pub reads_all : (def : ℕ) → def ≡ body.def
+    pub reads_all : (after : Body) → after.def ≡ body.def
         → ((all : List ℕ) (good : HasGoodHeader d all) → IsInPart d u most all good body.open_levels body.part from
         → LiesAt all from piece → Walks d u most (whole good.command.rules all) None × (from + length piece ≡ length all))
-        → HasRead d u most now (Over (Ok (record { def = def })))
-    reads_all def same walks = (
+        → HasRead d u most now after (Over (Ok (record { def = after.def })))
+    reads_all after same walks = (
       long_now,
       all_taken,
       λ more size.
@@ -131,9 +131,9 @@ module _ (d : Dictionary) (sound : IsDictionary d) (u : Unknown) (most : Levels)
           let (good, is, part) = reading_now more size in
           found_answers d sound u most (now ++ more) (sized_end now more long_now sound_now size) good e (found_in d u most (now ++ more) good _ e (stops (now ++ more) good part (lies_now more)))
 
-      pub stops_reading : (stage : Stage) → ((e ≡ refusal.NoMemory) × (stage ≡ NoMemory)) ⊎ ((e ≢ refusal.NoMemory) × (stage ≡ Over (Err e)))
-          → HasReadUnless (OpensAfter d most from now) d u most now stage
-      stops_reading stage (inl (memory, is)) = subst (HasReadUnless (OpensAfter d most from now) d u most now) (sym is) (
+      pub stops_reading : (after : Body) (stage : Stage) → ((e ≡ refusal.NoMemory) × (stage ≡ NoMemory)) ⊎ ((e ≢ refusal.NoMemory) × (stage ≡ Over (Err e)))
+          → HasReadUnless (OpensAfter d most from now) d u most now after stage
+      stops_reading after stage (inl (memory, is)) = subst (HasReadUnless (OpensAfter d most from now) d u most now after) (sym is) (
         sound_now,
         λ more size.
             let (good, same, part) = reading_now more size in (
@@ -142,7 +142,7 @@ module _ (d : Dictionary) (sound : IsDictionary d) (u : Unknown) (most : Levels)
                   (subst (IsStop d u most (now ++ more) good (BeginsLevel d most (now ++ more) from (from + length piece))) memory (stops (now ++ more) good part (lies_now more))),
             ),
       )
-      stops_reading stage (inr (ne, is)) = subst (HasReadUnless (OpensAfter d most from now) d u most now) (sym is) (
+      stops_reading after stage (inr (ne, is)) = subst (HasReadUnless (OpensAfter d most from now) d u most now after) (sym is) (
         long_now,
         whole_refusal d u most (now ++ zeros_to_end now) (length now)
             (wanted now) e ne (sized_end now (zeros_to_end now) long_now sound_now end_now) (answers (zeros_to_end now) end_now),

@@ -32,7 +32,7 @@ no_levels (AtMost m) = omega arith
 module _ (d : Dictionary) (sound : IsDictionary d) (u : Unknown) (most : Levels) (bytes : List ℕ) where
   -- ---- a body is being read
 
-  module _ (body : Body) (taken all : ℕ) (h : HasTaken d u most taken all (InBody body) bytes) (count : ℕ)
+  module _ (body : Body) (taken all : ℕ) (h : HasTaken d u most taken all body InBody bytes) (count : ℕ)
       (counted : (message : List ℕ) (good : HasGoodHeader d message) → CountsOuter d sound u most message good body.open_levels count) where
     abbrev message : List ℕ
     message = bytes ++ zeros_to_end bytes
@@ -119,11 +119,11 @@ module _ (d : Dictionary) (sound : IsDictionary d) (u : Unknown) (most : Levels)
           let none : number (take 3 (drop 1 bytes)) - length bytes ≡ 0 = omega (arith, w, all) in
           ap (λ (k : ℕ). bytes ++ replicate k 0) none ∙ append-nil bytes
 
-  counts_over : (answer : Result Selected Refusal) (taken all : ℕ) → HasTaken d u most taken all (Over answer) bytes → CountsLevels d u most bytes 0
-  counts_over (Ok found) taken all h = counts_none (λ long valid.
+  counts_over : (body : Body) (answer : Result Selected Refusal) (taken all : ℕ) → HasTaken d u most taken all body (Over answer) bytes → CountsLevels d u most bytes 0
+  counts_over body (Ok found) taken all h = counts_none (λ long valid.
       let (long', whole, however) = h.read in
       none_left found.def long whole (subst (λ (m : List ℕ). IsValidOf d u most m found.def) (append-nil bytes) (however [] (ap length (append-nil bytes) ∙ whole))))
-  counts_over (Err e) taken all h = counts_none (λ long valid.
+  counts_over body (Err e) taken all h = counts_none (λ long valid.
       let (long', whole, however) = h.read in
       let (rest, some) = valid in
       let (c, is_valid) = some in
@@ -131,8 +131,8 @@ module _ (d : Dictionary) (sound : IsDictionary d) (u : Unknown) (most : Levels)
       absurd (subst (λ (x : Refusal). IsWholeAnswer (length bytes) (wanted bytes) (Err x)) memory whole))
 
   -- a stage in which no body is read
-  pub counts_zero : (stage : Stage) → ((body : Body) → stage ≢ InBody body) → ¬ IsSpentStage stage → (taken all : ℕ) → HasTaken d u most taken all stage bytes → CountsLevels d u most bytes 0
-  counts_zero (Header front) none live taken all h = counts_none (λ long valid. let (short, kept) = h.read in absurd (omega (arith, long, short)))
-  counts_zero (InBody body) none live taken all h = absurd (none body refl)
-  counts_zero (Over answer) none live taken all h = counts_over answer taken all h
-  counts_zero NoMemory none live taken all h = absurd (live tt)
+  pub counts_zero : (body : Body) (stage : Stage) → stage ≢ InBody → ¬ IsSpentStage stage → (taken all : ℕ) → HasTaken d u most taken all body stage bytes → CountsLevels d u most bytes 0
+  counts_zero body (Header front) none live taken all h = counts_none (λ long valid. let (short, kept) = h.read in absurd (omega (arith, long, short)))
+  counts_zero body InBody none live taken all h = absurd (none refl)
+  counts_zero body (Over answer) none live taken all h = counts_over body answer taken all h
+  counts_zero body NoMemory none live taken all h = absurd (live tt)

@@ -15,6 +15,7 @@ use Rattle.dia_check.specs.declared.open_levels.OpenLevels.{OpenLevels}
 use Rattle.dia_check.specs.declared.stream.parts.Part.{Part}
 use Rattle.dia_check.specs.declared.stream.parts.Part.TheVariants.{Head, Data}
 use Rattle.dia_check.specs.declared.stream.parts.HeadPart.{HeadPart}
+use Rattle.dia_check.specs.declared.stream.stages.Body.{Body}
 use Rattle.dia_check.specs.declared.stream.stages.Stage.{Stage}
 use Rattle.dia_check.specs.declared.stream.stages.Stage.TheVariants.{Header as InHeader, InBody, Over, NoMemory}
 use Rattle.dia_check.specs.Faults.{HasGoodHeader, HasHeader, HasLength, IsAnswer}
@@ -153,16 +154,17 @@ pub refused_whole : (d : Dictionary) (u : Unknown) (most : Levels) (all : List �
 refused_whole d u most all k m e ne sized h = (whole_refusal d u most all k m e ne sized h, h)
 
 module _ (d : Dictionary) (sound : IsDictionary d) (u : Unknown) (most : Levels) (bytes : List ℕ) (size : length bytes ≡ 20) (n : ℕ) (sized : HasLength bytes n) where
-  pub begun_reads : (stage : Stage) → ((more : List ℕ) → length (bytes ++ more) ≡ n → IsBegun d u most (bytes ++ more) stage) → HasReadUnless (BeginsGood d bytes) d u most bytes stage
-  begun_reads (InHeader front) h = let (is, e) = length_sound bytes n sized in let l = sized.sound.no_less in absurd (h (zeros_to_end bytes) (ends_with_zeros bytes (omega (arith, e, l, size)) ∙ e))
-  begun_reads (InBody body) h =
+  pub begun_reads : (body : Body) (stage : Stage) → ((more : List ℕ) → length (bytes ++ more) ≡ n → IsBegun d u most (bytes ++ more) body stage)
+      → HasReadUnless (BeginsGood d bytes) d u most bytes body stage
+  begun_reads body (InHeader front) h = let (is, e) = length_sound bytes n sized in let l = sized.sound.no_less in absurd (h (zeros_to_end bytes) (ends_with_zeros bytes (omega (arith, e, l, size)) ∙ e))
+  begun_reads body InBody h =
       let (is, e) = length_sound bytes n sized in
       let l = sized.sound.no_less in
       let end = ends_with_zeros bytes (omega (arith, e, l, size)) ∙ e in
       let (good, same, part) = h (zeros_to_end bytes) end in
       let less = part_within d sound u most (bytes ++ zeros_to_end bytes) good body.open_levels body.part 20 part in
       (omega (arith, size), is, omega (arith, less, end, e, size), λ more to_end. subst (λ (k : ℕ). IsReading d u most body k (bytes ++ more)) (sym size) (h more (to_end ∙ e)))
-  begun_reads (Over answer) h =
+  begun_reads body (Over answer) h =
       let (is, e) = length_sound bytes n sized in
       let l = sized.sound.no_less in
       let end = ends_with_zeros bytes (omega (arith, e, l, size)) ∙ e in
@@ -170,4 +172,4 @@ module _ (d : Dictionary) (sound : IsDictionary d) (u : Unknown) (most : Levels)
       let all_is = ends_with_zeros bytes (omega (arith, e, l, size)) in
       let here = subst (λ (k : ℕ). IsWholeAnswer k (wanted bytes) answer) (sym size) (subst (λ (k : ℕ). IsWholeAnswer 20 k answer) all_is whole) in
       (omega (arith, size), here, λ more to_end. let (there, is_answer) = h more (to_end ∙ e) in is_answer)
-  begun_reads NoMemory h = let (is, e) = length_sound bytes n sized in (omega (arith, size), is, λ more to_end. h more (to_end ∙ e))
+  begun_reads body NoMemory h = let (is, e) = length_sound bytes n sized in (omega (arith, size), is, λ more to_end. h more (to_end ∙ e))

@@ -11,6 +11,7 @@ use Rattle.dia_terms.specs.declared.Levels.{Levels}
 use Rattle.dia_check.specs.declared.stream.front.Front.{Front}
 use Rattle.dia_check.specs.declared.stream.StreamFault.{StreamFault}
 use Rattle.dia_check.specs.declared.stream.StreamFault.TheVariants as fault
+use Rattle.dia_check.specs.declared.stream.stages.Body.{Body}
 use Rattle.dia_check.specs.declared.stream.stages.Stage.{Stage}
 use Rattle.dia_check.specs.declared.stream.stages.Stage.TheVariants.{Header, InBody, Over, NoMemory}
 use Rattle.dia_check.specs.Faults.{HasGoodHeader}
@@ -24,39 +25,40 @@ use Rattle.dia_check.proofs.HeadsInPieces.{prefix}
 
 -- ---- stages
 
-pub unless_read : (Memory : Type 0) (d : Dictionary) (u : Unknown) (most : Levels) (bytes : List ℕ) (stage : Stage)
-    → ¬ IsSpentStage stage → HasReadUnless Memory d u most bytes stage → HasRead d u most bytes stage
-unless_read Memory d u most bytes (Header front) live h = h
-unless_read Memory d u most bytes (InBody body) live h = h
-unless_read Memory d u most bytes (Over answer) live h = h
-unless_read Memory d u most bytes NoMemory live h = absurd (live tt)
+pub unless_read : (Memory : Type 0) (d : Dictionary) (u : Unknown) (most : Levels) (bytes : List ℕ) (body : Body) (stage : Stage)
+    → ¬ IsSpentStage stage → HasReadUnless Memory d u most bytes body stage → HasRead d u most bytes body stage
+unless_read Memory d u most bytes body (Header front) live h = h
+unless_read Memory d u most bytes body InBody live h = h
+unless_read Memory d u most bytes body (Over answer) live h = h
+unless_read Memory d u most bytes body NoMemory live h = absurd (live tt)
 
-pub memory_of : (Memory : Type 0) (d : Dictionary) (u : Unknown) (most : Levels) (bytes : List ℕ) (stage : Stage) → IsSpentStage stage → HasReadUnless Memory d u most bytes stage → Memory
-memory_of Memory d u most bytes (Header front) spent h = absurd spent
-memory_of Memory d u most bytes (InBody body) spent h = absurd spent
-memory_of Memory d u most bytes (Over answer) spent h = absurd spent
-memory_of Memory d u most bytes NoMemory spent h = h
+pub memory_of : (Memory : Type 0) (d : Dictionary) (u : Unknown) (most : Levels) (bytes : List ℕ) (body : Body) (stage : Stage)
+    → IsSpentStage stage → HasReadUnless Memory d u most bytes body stage → Memory
+memory_of Memory d u most bytes body (Header front) spent h = absurd spent
+memory_of Memory d u most bytes body InBody spent h = absurd spent
+memory_of Memory d u most bytes body (Over answer) spent h = absurd spent
+memory_of Memory d u most bytes body NoMemory spent h = h
 
 pub live_stage : (stage : Stage) → stage ≢ NoMemory → ¬ IsSpentStage stage
 live_stage (Header front) other spent = spent
-live_stage (InBody body) other spent = spent
+live_stage InBody other spent = spent
 live_stage (Over answer) other spent = spent
 live_stage NoMemory other spent = other refl
 
-pub is_stage : (d : Dictionary) (u : Unknown) (most : Levels) (taken all : ℕ) (stage : Stage) (bytes : List ℕ)
-    → (¬ IsSpentStage stage → HasTaken d u most taken all stage bytes) → IsStage d u most taken all stage
-is_stage d u most taken all (Header front) bytes h = (bytes, h (λ x. x))
-is_stage d u most taken all (InBody body) bytes h = (bytes, h (λ x. x))
-is_stage d u most taken all (Over answer) bytes h = (bytes, h (λ x. x))
-is_stage d u most taken all NoMemory bytes h = tt
+pub is_stage : (d : Dictionary) (u : Unknown) (most : Levels) (taken all : ℕ) (body : Body) (stage : Stage) (bytes : List ℕ)
+    → (¬ IsSpentStage stage → HasTaken d u most taken all body stage bytes) → IsStage d u most taken all body stage
+is_stage d u most taken all body (Header front) bytes h = (bytes, h (λ x. x))
+is_stage d u most taken all body InBody bytes h = (bytes, h (λ x. x))
+is_stage d u most taken all body (Over answer) bytes h = (bytes, h (λ x. x))
+is_stage d u most taken all body NoMemory bytes h = tt
 
 -- the bytes that a stream has taken
-pub has_taken : (d : Dictionary) (u : Unknown) (most : Levels) (taken all : ℕ) (stage : Stage)
-    → ¬ IsSpentStage stage → IsStage d u most taken all stage → (bytes : List ℕ) × HasTaken d u most taken all stage bytes
-has_taken d u most taken all (Header front) live h = h
-has_taken d u most taken all (InBody body) live h = h
-has_taken d u most taken all (Over answer) live h = h
-has_taken d u most taken all NoMemory live h = absurd (live tt)
+pub has_taken : (d : Dictionary) (u : Unknown) (most : Levels) (taken all : ℕ) (body : Body) (stage : Stage)
+    → ¬ IsSpentStage stage → IsStage d u most taken all body stage → (bytes : List ℕ) × HasTaken d u most taken all body stage bytes
+has_taken d u most taken all body (Header front) live h = h
+has_taken d u most taken all body InBody live h = h
+has_taken d u most taken all body (Over answer) live h = h
+has_taken d u most taken all body NoMemory live h = absurd (live tt)
 
 -- a fact about one dictionary and policy holds of equal ones
 pub moved : (P : Dictionary → Unknown → Levels → Type 0) (d e : Dictionary) (u v : Unknown) (m n : Levels) → d ≡ e → u ≡ v → m ≡ n → P d u m → P e v n
@@ -99,10 +101,10 @@ module _ (bytes piece : List ℕ) (n : ℕ) (stops : (n ≡ length piece) ⊎ ((
       sym (ap (λ (k : ℕ). take k (bytes ++ piece)) (wants_more ∙ sym full.1) ∙ ap (take (length (bytes ++ take n piece))) (sym (rest_of bytes piece n))
       ∙ take-append_seam (bytes ++ take n piece) (drop n piece))) stops
 
-pub takes : (d : Dictionary) (u : Unknown) (most : Levels) (taken all : ℕ) (stage : Stage) (bytes piece : List ℕ) (n : ℕ) (done : Bool)
-    → HasTaken d u most taken all stage (bytes ++ take n piece) → n ≤ length piece
+pub takes : (d : Dictionary) (u : Unknown) (most : Levels) (taken all : ℕ) (body : Body) (stage : Stage) (bytes piece : List ℕ) (n : ℕ) (done : Bool)
+    → HasTaken d u most taken all body stage (bytes ++ take n piece) → n ≤ length piece
     → (n ≡ length piece) ⊎ ((20 ≤ taken) × (taken ≡ all)) → (IsTrue done ↔ (taken ≡ all)) → Takes bytes piece (record { taken = n; done = done })
-takes d u most taken all stage bytes piece n done h le stops is_done = record {
+takes d u most taken all body stage bytes piece n done h le stops is_done = record {
   front = front;
   within = le;
   done = (
@@ -237,47 +239,50 @@ module _ (front after : Front) (piece : List ℕ) (more : front_bytes after ≡ 
       ap (λ (n : ℕ). n - length (front_bytes front)) (sym after_size) in
       joined ∙ ap (λ (n : ℕ). front_bytes front ++ take n piece) e ∙ ap (λ (t : List ℕ). t ++ take (length (front_bytes after) - length (front_bytes front)) piece) kept
 
-  pub header_taken : (d : Dictionary) (u : Unknown) (most : Levels) (taken all : ℕ) (bytes : List ℕ) → HasTaken d u most taken all (Header front) bytes
-      → (wants : ℕ) (stage : Stage) → (wants ≡ wanted (front_bytes after)) × (wants < 2 ^ 32) → HasReadUnless (BeginsGood d (front_bytes after)) d u most (front_bytes after) stage → ¬ IsSpentStage stage
-      → HasTaken d u most (length (front_bytes after)) wants stage (bytes ++ take (length (front_bytes after) - length (front_bytes front)) piece)
-  header_taken d u most taken all bytes h wants stage (is, few) reads live =
+  pub header_taken : (d : Dictionary) (u : Unknown) (most : Levels) (taken all : ℕ) (idle : Body) (bytes : List ℕ) → HasTaken d u most taken all idle (Header front) bytes
+      → (wants : ℕ) (body : Body) (stage : Stage) → (wants ≡ wanted (front_bytes after)) × (wants < 2 ^ 32)
+      → HasReadUnless (BeginsGood d (front_bytes after)) d u most (front_bytes after) body stage → ¬ IsSpentStage stage
+      → HasTaken d u most (length (front_bytes after)) wants body stage (bytes ++ take (length (front_bytes after) - length (front_bytes front)) piece)
+  header_taken d u most taken all idle bytes h wants body stage (is, few) reads live =
       let (short, kept) = h.read in
       let same = same_front bytes kept in
-      subst (λ (t : List ℕ). HasTaken d u most (length (front_bytes after)) wants stage t) same (record {
+      subst (λ (t : List ℕ). HasTaken d u most (length (front_bytes after)) wants body stage t) same (record {
         sound = h.sound;
         count = refl;
         wants = is;
         few = few;
         within = (let a = after_size in let t = length-take 20 (front_bytes front ++ piece) in let l = least_wanted (front_bytes after) in omega (arith, a, t, l));
-        read = unless_read (BeginsGood d (front_bytes after)) d u most (front_bytes after) stage live reads;
+        read = unless_read (BeginsGood d (front_bytes after)) d u most (front_bytes after) body stage live reads;
       })
 
-  pub header_opens : (d : Dictionary) (u : Unknown) (most : Levels) (taken all : ℕ) (bytes : List ℕ) → HasTaken d u most taken all (Header front) bytes
+  pub header_opens : (d : Dictionary) (u : Unknown) (most : Levels) (taken all : ℕ) (idle : Body) (bytes : List ℕ) → HasTaken d u most taken all idle (Header front) bytes
       → BeginsGood d (front_bytes after) → OpensLevel d most bytes (drop (length bytes) (taken_of (bytes ++ piece)))
-  header_opens d u most taken all bytes h good =
+  header_opens d u most taken all idle bytes h good =
       let (short, kept) = h.read in
       let (long, is, however) = good in
       let same = same_front bytes kept in
       let size : length (front_bytes after) ≡ 20 = (let a = after_size in let t = length-take 20 (front_bytes front ++ piece) in omega (arith, a, t, long)) in
       start_opens d most bytes piece (length (front_bytes after) - length (front_bytes front)) short (ap length (sym same) ∙ size) (subst (BeginsGood d) same good)
 
-  pub header_now : (d : Dictionary) (u : Unknown) (most : Levels) (taken all : ℕ) (bytes : List ℕ) → HasTaken d u most taken all (Header front) bytes
-      → (k now wants : ℕ) (stage : Stage) → k ≡ length (front_bytes after) - length (front_bytes front) → now ≡ length (front_bytes after)
-      → (wants ≡ wanted (front_bytes after)) × (wants < 2 ^ 32) → HasReadUnless (BeginsGood d (front_bytes after)) d u most (front_bytes after) stage → ¬ IsSpentStage stage → HasTaken d u most now wants stage (bytes ++ take k piece)
-  header_now d u most taken all bytes h k now wants stage is_k is_now wanting reads live =
-      subst (λ (n : ℕ). HasTaken d u most n wants stage (bytes ++ take k piece)) (sym is_now)
-      (subst (λ (n : ℕ). HasTaken d u most (length (front_bytes after)) wants stage (bytes ++ take n piece)) (sym is_k) (header_taken d u most taken all bytes h wants stage wanting reads live))
+  pub header_now : (d : Dictionary) (u : Unknown) (most : Levels) (taken all : ℕ) (idle : Body) (bytes : List ℕ) → HasTaken d u most taken all idle (Header front) bytes
+      → (k now wants : ℕ) (body : Body) (stage : Stage) → k ≡ length (front_bytes after) - length (front_bytes front) → now ≡ length (front_bytes after)
+      → (wants ≡ wanted (front_bytes after)) × (wants < 2 ^ 32) → HasReadUnless (BeginsGood d (front_bytes after)) d u most (front_bytes after) body stage
+      → ¬ IsSpentStage stage → HasTaken d u most now wants body stage (bytes ++ take k piece)
+  header_now d u most taken all idle bytes h k now wants body stage is_k is_now wanting reads live =
+      subst (λ (n : ℕ). HasTaken d u most n wants body stage (bytes ++ take k piece)) (sym is_now)
+      (subst (λ (n : ℕ). HasTaken d u most (length (front_bytes after)) wants body stage (bytes ++ take n piece)) (sym is_k)
+      (header_taken d u most taken all idle bytes h wants body stage wanting reads live))
 
 -- ---- bytes after the header
 
-pub after_header : (d : Dictionary) (u : Unknown) (most : Levels) (taken all : ℕ) (stage : Stage) (bytes : List ℕ) → ((front : Front) → stage ≢ Header front) → ¬ IsSpentStage stage
-    → HasTaken d u most taken all stage bytes → 20 ≤ taken
-after_header d u most taken all (Header front) bytes none live h = absurd (none front refl)
-after_header d u most taken all (InBody body) bytes none live h = let (long, is, less, however) = h.read in let c = h.count in omega (arith, long, c)
-after_header d u most taken all (Over answer) bytes none live h = let (long, whole, however) = h.read in let c = h.count in omega (arith, long, c)
-after_header d u most taken all NoMemory bytes none live h = absurd (live tt)
+pub after_header : (d : Dictionary) (u : Unknown) (most : Levels) (taken all : ℕ) (body : Body) (stage : Stage) (bytes : List ℕ) → ((front : Front) → stage ≢ Header front)
+    → ¬ IsSpentStage stage → HasTaken d u most taken all body stage bytes → 20 ≤ taken
+after_header d u most taken all body (Header front) bytes none live h = absurd (none front refl)
+after_header d u most taken all body InBody bytes none live h = let (long, is, less, however) = h.read in let c = h.count in omega (arith, long, c)
+after_header d u most taken all body (Over answer) bytes none live h = let (long, whole, however) = h.read in let c = h.count in omega (arith, long, c)
+after_header d u most taken all body NoMemory bytes none live h = absurd (live tt)
 
-module _ (d : Dictionary) (u : Unknown) (most : Levels) (taken all : ℕ) (old : Stage) (bytes piece : List ℕ) (h : HasTaken d u most taken all old bytes) where
+module _ (d : Dictionary) (u : Unknown) (most : Levels) (taken all : ℕ) (before : Body) (old : Stage) (bytes piece : List ℕ) (h : HasTaken d u most taken all before old bytes) where
   pub taken_within : taken ≤ all
   taken_within = let c = h.count in let w = h.wants in let l = h.within in omega (arith, c, w, l)
 
@@ -294,7 +299,7 @@ module _ (d : Dictionary) (u : Unknown) (most : Levels) (taken all : ℕ) (old :
     now_within : length (bytes ++ take n piece) ≤ wanted (bytes ++ take n piece)
     now_within = let t = taken_within in let s = now_size in let w = now_wants in omega (arith, t, s, w, room)
 
-    pub may_read : MayRead d u most bytes old taken (take n piece)
+    pub may_read : MayRead d u most bytes before old taken (take n piece)
     may_read = record {
       long = long_bytes;
       read = h.read;
@@ -303,15 +308,15 @@ module _ (d : Dictionary) (u : Unknown) (most : Levels) (taken all : ℕ) (old :
       few = (let f = h.few in let w = h.wants in omega (arith, f, w));
     }
 
-    module _ (Memory : Type 0) (stage : Stage) (reads : HasReadUnless Memory d u most (bytes ++ take n piece) stage) where
-      pub body_taken : ¬ IsSpentStage stage → HasTaken d u most (taken + n) all stage (bytes ++ take n piece)
+    module _ (Memory : Type 0) (body : Body) (stage : Stage) (reads : HasReadUnless Memory d u most (bytes ++ take n piece) body stage) where
+      pub body_taken : ¬ IsSpentStage stage → HasTaken d u most (taken + n) all body stage (bytes ++ take n piece)
       body_taken live = record {
         sound = h.sound;
         count = sym now_size;
         wants = sym now_wants;
         few = h.few;
         within = now_within;
-        read = unless_read Memory d u most (bytes ++ take n piece) stage live reads;
+        read = unless_read Memory d u most (bytes ++ take n piece) body stage live reads;
       }
 
     pub body_opens : (n < length piece → all - taken ≤ n) → OpensAfter d most taken (bytes ++ take n piece) → OpensLevel d most bytes (drop (length bytes) (taken_of (bytes ++ piece)))

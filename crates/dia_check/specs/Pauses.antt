@@ -1,5 +1,5 @@
 -- A stream apart from its dictionary, and what it means.
-use Rattle.std.specs.Prelude.{◌≡◌, ◌≢◌, ℕ, List, Option, Some, None, MatchOption, ⊤}
+use Rattle.std.specs.Prelude.{◌≡◌, ◌≢◌, ℕ, List, Option, Some, None, MatchOption}
 use Rattle.dia_wire.specs.declared.Key.{Key}
 use Rattle.dia_data.specs.Plain.{Grouped}
 use Rattle.dia_data.specs.State.{HasSeenData}
@@ -9,16 +9,12 @@ use Rattle.dia_terms.specs.declared.Unknown.{Unknown}
 use Rattle.dia_terms.specs.declared.Levels.{Levels}
 use Rattle.dia_valid.specs.Valid.{known}
 use Rattle.dia_check.specs.Reading.{HasSeen}
-use Rattle.dia_check.specs.Streaming.{HasTaken, IsStage}
-use Rattle.dia_check.specs.declared.stream.stages.Stage.{Stage}
-use Rattle.dia_check.specs.declared.stream.stages.Stage.TheVariants as stage
+use Rattle.dia_check.specs.Streaming.{HasTaken, IsSpentStage, IsStage}
 use Rattle.dia_check.specs.declared.stream.stages.Body.{Body}
 use Rattle.dia_check.specs.declared.stream.parts.Part.{Part}
 use Rattle.dia_check.specs.declared.stream.parts.Part.TheVariants as part
 use Rattle.dia_check.specs.declared.stream.parts.DataPart.{DataPart}
 use Rattle.dia_check.specs.declared.stream.paused.Paused.{Paused}
-use Rattle.dia_check.specs.declared.stream.paused.PausedStage.{PausedStage}
-use Rattle.dia_check.specs.declared.stream.paused.PausedStage.TheVariants as paused
 use Rattle.dia_check.specs.declared.stream.paused.PausedBody.{PausedBody}
 use Rattle.dia_check.specs.declared.stream.paused.PausedPart.{PausedPart}
 use Rattle.dia_check.specs.declared.stream.paused.PausedPart.TheVariants as piece
@@ -50,48 +46,31 @@ IsResumeOfPart d (piece.Data p) (part.Data x) = IsResumeOfData d p x
 IsResumeOfPart d (piece.Head p) (part.Data x) = ⊥
 IsResumeOfPart d (piece.Data p) (part.Head x) = ⊥
 
-pub record IsPauseOfBody (d : Dictionary) (x : Body) (p : PausedBody) : Type 0 where
+-- the body is paused so
+pub record IsPauseOf (d : Dictionary) (x : Body) (p : PausedBody) : Type 0 where
   pub def : p.def ≡ x.def
   pub open_levels : p.open_levels ≡ x.open_levels
   pub part : IsPauseOfPart d x.part p.part
 
-pub record IsResumeOfBody (d : Dictionary) (p : PausedBody) (x : Body) : Type 0 where
+pub record IsResumeOf (d : Dictionary) (p : PausedBody) (x : Body) : Type 0 where
   pub def : x.def ≡ p.def
   pub open_levels : x.open_levels ≡ p.open_levels
   pub part : IsResumeOfPart d p.part x.part
-
-abbrev pub IsPauseOf : Dictionary → Stage → PausedStage → Type 0
-IsPauseOf d (stage.Header x) p = p ≡ paused.Header x
-IsPauseOf d (stage.Over x) p = p ≡ paused.Over x
-IsPauseOf d stage.NoMemory p = p ≡ paused.NoMemory
-IsPauseOf d (stage.InBody x) p = (b : PausedBody) × (p ≡ paused.InBody b) × IsPauseOfBody d x b
-
-abbrev pub IsResumeOf : Dictionary → PausedStage → Stage → Type 0
-IsResumeOf d (paused.Header p) x = x ≡ stage.Header p
-IsResumeOf d (paused.Over p) x = x ≡ stage.Over p
-IsResumeOf d paused.NoMemory x = x ≡ stage.NoMemory
-IsResumeOf d (paused.InBody p) x = (b : Body) × (x ≡ stage.InBody b) × IsResumeOfBody d p b
 
 -- the paused stream has taken these bytes, and checks them against this dictionary
 pub record HasPaused (p : Paused) (d : Dictionary) (u : Unknown) (most : Levels) (bytes : List ℕ) : Type 0 where
   pub unknown : p.unknown ≡ u
   pub levels : p.levels ≡ most
-  pub before : Stage
-  pub is_pause : IsPauseOf d before p.stage
-  pub taken : HasTaken d u most p.taken p.wanted before bytes
+  pub before : Body
+  pub is_pause : IsPauseOf d before p.body
+  pub taken : HasTaken d u most p.taken p.wanted before p.stage bytes
 
 -- it may go on with this dictionary
 pub record IsPausedFor (d : Dictionary) (p : Paused) : Type 0 where
-  pub before : Stage
-  pub is_pause : IsPauseOf d before p.stage
-  pub is_stage : IsStage d p.unknown p.levels p.taken p.wanted before
+  pub before : Body
+  pub is_pause : IsPauseOf d before p.body
+  pub is_stage : IsStage d p.unknown p.levels p.taken p.wanted before p.stage
 
 -- the stream was refused memory before it was paused
-abbrev pub IsSpentPaused : PausedStage → Type 0
-IsSpentPaused paused.NoMemory = ⊤
-IsSpentPaused (paused.Header x) = ⊥
-IsSpentPaused (paused.InBody x) = ⊥
-IsSpentPaused (paused.Over x) = ⊥
-
 abbrev pub WasSpent : Paused → Type 0
-WasSpent p = IsSpentPaused p.stage
+WasSpent p = IsSpentStage p.stage

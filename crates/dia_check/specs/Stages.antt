@@ -21,15 +21,15 @@ abbrev pub IsOfSome : Header → ℕ → Type 0
 IsOfSome header end = (bytes : List ℕ) × (length bytes < 2 ^ 32) × HasLength bytes (length bytes) × HasHeader bytes header × (end ≡ length bytes)
 
 -- a message with this header that ends at this place goes on by the stage
-abbrev pub HasBegun : Dictionary → Header → ℕ → Stage → Type 0
-HasBegun d header end stage =
-    (u : Unknown) (most : Levels) (bytes : List ℕ) → HasLength bytes (length bytes) → HasHeader bytes header → end ≡ length bytes → IsBegun d u most bytes stage
+abbrev pub HasBegun : Dictionary → Header → ℕ → Body → Stage → Type 0
+HasBegun d header end body stage =
+    (u : Unknown) (most : Levels) (bytes : List ℕ) → HasLength bytes (length bytes) → HasHeader bytes header → end ≡ length bytes → IsBegun d u most bytes body stage
 
 -- and the body of a message with this header was opened, unless nothing is to be read of it
-abbrev pub HasBegunBody : Dictionary → Header → ℕ → Result Stage Refusal → Type 0
-HasBegunBody d header end result =
+abbrev pub HasBegunBody : Dictionary → Header → ℕ → Body → Result Stage Refusal → Type 0
+HasBegunBody d header end body result =
     (u : Unknown) (most : Levels) (bytes : List ℕ) → HasLength bytes (length bytes) → HasHeader bytes header → end ≡ length bytes
-    → MatchResult result (IsBegun d u most bytes) (λ refusal. IsAnswer d u most bytes (Err refusal) × (refusal ≡ NoMemory → HasGoodHeader d bytes))
+    → MatchResult result (IsBegun d u most bytes body) (λ refusal. IsAnswer d u most bytes (Err refusal) × (refusal ≡ NoMemory → HasGoodHeader d bytes))
 
 -- ---- the body
 
@@ -49,10 +49,10 @@ HasReadPiece b old from piece new result =
     (IsStop b.dictionary b.unknown b.levels bytes good (BeginsLevel b.dictionary b.levels bytes from (from + length piece)))
 
 -- a piece may be read after the first bytes of some message
-abbrev pub MayReadSome : PlainBasis → Stage → ℕ → List ℕ → Type 0
-MayReadSome b stage from piece = (bytes : List ℕ) × MayRead b.dictionary b.unknown b.levels bytes stage from piece
+abbrev pub MayReadSome : PlainBasis → Body → Stage → ℕ → List ℕ → Type 0
+MayReadSome b body stage from piece = (bytes : List ℕ) × MayRead b.dictionary b.unknown b.levels bytes body stage from piece
 
 -- a piece was read after the first bytes of a message, or memory was refused where a level begins in it
-abbrev pub HasReadMore : PlainBasis → Stage → ℕ → List ℕ → Stage → Type 0
-HasReadMore b old from piece new = (bytes : List ℕ) → MayRead b.dictionary b.unknown b.levels bytes old from piece
-    → HasReadUnless (OpensAfter b.dictionary b.levels from (bytes ++ piece)) b.dictionary b.unknown b.levels (bytes ++ piece) new
+abbrev pub HasReadMore : PlainBasis → Body → Stage → ℕ → List ℕ → Body → Stage → Type 0
+HasReadMore b old stage from piece new next = (bytes : List ℕ) → MayRead b.dictionary b.unknown b.levels bytes old stage from piece
+    → HasReadUnless (OpensAfter b.dictionary b.levels from (bytes ++ piece)) b.dictionary b.unknown b.levels (bytes ++ piece) new next

@@ -13,6 +13,8 @@ use Rattle.dia_check.specs.declared.stream.stages.Stage.{Stage}
 use Rattle.dia_check.specs.declared.stream.stages.Stage.TheVariants.{Header, InBody, Over, NoMemory}
 use Rattle.dia_check.specs.declared.stream.stages.Body.{Body}
 use Rattle.dia_check.specs.declared.stream.Progress.{Progress}
+use Rattle.dia_check.specs.declared.stream.StreamFault.{StreamFault}
+use Rattle.dia_check.specs.declared.stream.StreamFault.TheVariants as stream_fault
 use Rattle.dia_valid.specs.Valid.{IsValid}
 use Rattle.dia_check.specs.Levels.{Level, IsOpen, filled}
 use Rattle.dia_check.specs.Faults.{HasGoodHeader, IsAnswer}
@@ -38,6 +40,17 @@ pub record Takes (bytes piece : List ℕ) (progress : Progress) : Type 0 where
   pub front : bytes ++ take progress.taken piece ≡ taken_of (bytes ++ piece)
   pub within : progress.taken ≤ length piece
   pub done : IsTrue progress.done ↔ (length (taken_of (bytes ++ piece)) ≡ wanted (bytes ++ piece))
+
+-- it takes all of the piece
+abbrev pub TakesAll : List ℕ → Result Progress StreamFault → Type 0
+TakesAll piece (Ok progress) = progress.taken ≡ length piece
+TakesAll piece (Err fault) = ⊥
+
+-- it is refused memory
+abbrev pub IsRefused : Result Progress StreamFault → Type 0
+IsRefused (Err stream_fault.NoMemory) = ⊤
+IsRefused (Err stream_fault.Spent) = ⊥
+IsRefused (Ok progress) = ⊥
 
 -- ---- levels
 
@@ -91,36 +104,36 @@ IsWholeAnswer taken all (Err refusal.NoMemory) = ⊥
 IsWholeAnswer taken all (Err refusal.Spent) = ⊥
 
 -- after the header of a message: its body is read, or it is answered, or memory was refused for the body of a good header
-abbrev pub IsBegun : Dictionary → Unknown → Levels → List ℕ → Stage → Type 0
-IsBegun d u most bytes (InBody body) = IsReading d u most body 20 bytes
-IsBegun d u most bytes (Over answer) = IsWholeAnswer 20 (length bytes) answer × IsAnswer d u most bytes answer
-IsBegun d u most bytes (Header front) = ⊥
-IsBegun d u most bytes NoMemory = HasGoodHeader d bytes
+abbrev pub IsBegun : Dictionary → Unknown → Levels → List ℕ → Body → Stage → Type 0
+IsBegun d u most bytes body InBody = IsReading d u most body 20 bytes
+IsBegun d u most bytes body (Over answer) = IsWholeAnswer 20 (length bytes) answer × IsAnswer d u most bytes answer
+IsBegun d u most bytes body (Header front) = ⊥
+IsBegun d u most bytes body NoMemory = HasGoodHeader d bytes
 
--- these bytes were read, as far as the stage says
-abbrev pub HasRead : Dictionary → Unknown → Levels → List ℕ → Stage → Type 0
-HasRead d u most bytes (Header front) = (length bytes < 20) × (front_bytes front ≡ bytes)
-HasRead d u most bytes (InBody body) = (20 ≤ length bytes) × IsTrue (is_sound bytes) × (length bytes < wanted bytes) × HoweverItEnds bytes (IsReading d u most body (length bytes))
-HasRead d u most bytes (Over answer) = (20 ≤ length bytes) × IsWholeAnswer (length bytes) (wanted bytes) answer × HoweverItEnds bytes (λ all. IsAnswer d u most all answer)
-HasRead d u most bytes NoMemory = ⊥
+-- these bytes were read, as far as the stage says; the body is the one that is being read, if one is
+abbrev pub HasRead : Dictionary → Unknown → Levels → List ℕ → Body → Stage → Type 0
+HasRead d u most bytes body (Header front) = (length bytes < 20) × (front_bytes front ≡ bytes)
+HasRead d u most bytes body InBody = (20 ≤ length bytes) × IsTrue (is_sound bytes) × (length bytes < wanted bytes) × HoweverItEnds bytes (IsReading d u most body (length bytes))
+HasRead d u most bytes body (Over answer) = (20 ≤ length bytes) × IsWholeAnswer (length bytes) (wanted bytes) answer × HoweverItEnds bytes (λ all. IsAnswer d u most all answer)
+HasRead d u most bytes body NoMemory = ⊥
 
 -- these bytes were read, or memory was refused where this type holds
-abbrev pub HasReadUnless : Type 0 → Dictionary → Unknown → Levels → List ℕ → Stage → Type 0
-HasReadUnless Memory d u most bytes (Header front) = HasRead d u most bytes (Header front)
-HasReadUnless Memory d u most bytes (InBody body) = HasRead d u most bytes (InBody body)
-HasReadUnless Memory d u most bytes (Over answer) = HasRead d u most bytes (Over answer)
-HasReadUnless Memory d u most bytes NoMemory = Memory
+abbrev pub HasReadUnless : Type 0 → Dictionary → Unknown → Levels → List ℕ → Body → Stage → Type 0
+HasReadUnless Memory d u most bytes body (Header front) = HasRead d u most bytes body (Header front)
+HasReadUnless Memory d u most bytes body InBody = HasRead d u most bytes body InBody
+HasReadUnless Memory d u most bytes body (Over answer) = HasRead d u most bytes body (Over answer)
+HasReadUnless Memory d u most bytes body NoMemory = Memory
 
 abbrev pub IsSpentStage : Stage → Type 0
 IsSpentStage NoMemory = ⊤
 IsSpentStage (Header front) = ⊥
-IsSpentStage (InBody body) = ⊥
+IsSpentStage InBody = ⊥
 IsSpentStage (Over answer) = ⊥
 
 -- the header was read, and a piece follows that doesn't go past the end of the message
-pub record MayRead (d : Dictionary) (u : Unknown) (most : Levels) (bytes : List ℕ) (stage : Stage) (from : ℕ) (piece : List ℕ) : Type 0 where
+pub record MayRead (d : Dictionary) (u : Unknown) (most : Levels) (bytes : List ℕ) (body : Body) (stage : Stage) (from : ℕ) (piece : List ℕ) : Type 0 where
   pub long : 20 ≤ length bytes
-  pub read : HasRead d u most bytes stage
+  pub read : HasRead d u most bytes body stage
   pub from_end : from ≡ length bytes
   pub within : length (bytes ++ piece) ≤ wanted bytes
   pub few : wanted bytes < 2 ^ 32
@@ -134,17 +147,17 @@ abbrev pub OpensAfter : Dictionary → Levels → ℕ → List ℕ → Type 0
 OpensAfter d most from bytes = IsTrue (is_sound bytes) × HoweverItEnds bytes (λ all. HasGoodHeader d all × BeginsLevel d most all from (length bytes))
 
 -- so many bytes were taken of those that are wanted, and they are these
-pub record HasTaken (d : Dictionary) (u : Unknown) (most : Levels) (taken all : ℕ) (stage : Stage) (bytes : List ℕ) : Type 0 where
+pub record HasTaken (d : Dictionary) (u : Unknown) (most : Levels) (taken all : ℕ) (body : Body) (stage : Stage) (bytes : List ℕ) : Type 0 where
   pub sound : IsDictionary d
   pub count : taken ≡ length bytes
   pub wants : all ≡ wanted bytes
   pub few : all < 2 ^ 32
   pub within : length bytes ≤ wanted bytes
-  pub read : HasRead d u most bytes stage
+  pub read : HasRead d u most bytes body stage
 
 -- a stage that a stream can be in
-abbrev pub IsStage : Dictionary → Unknown → Levels → ℕ → ℕ → Stage → Type 0
-IsStage d u most taken all NoMemory = ⊤
-IsStage d u most taken all (Header front) = (bytes : List ℕ) × HasTaken d u most taken all (Header front) bytes
-IsStage d u most taken all (InBody body) = (bytes : List ℕ) × HasTaken d u most taken all (InBody body) bytes
-IsStage d u most taken all (Over answer) = (bytes : List ℕ) × HasTaken d u most taken all (Over answer) bytes
+abbrev pub IsStage : Dictionary → Unknown → Levels → ℕ → ℕ → Body → Stage → Type 0
+IsStage d u most taken all body NoMemory = ⊤
+IsStage d u most taken all body (Header front) = (bytes : List ℕ) × HasTaken d u most taken all body (Header front) bytes
+IsStage d u most taken all body InBody = (bytes : List ℕ) × HasTaken d u most taken all body InBody bytes
+IsStage d u most taken all body (Over answer) = (bytes : List ℕ) × HasTaken d u most taken all body (Over answer) bytes

@@ -16,7 +16,7 @@ pub record Denotes {B : Type 0} {ghosts : Ghosts B} (meaning : B → Dictionary)
   pub book : meaning s.basis.book.now ≡ d
   pub unknown : s.basis.unknown ≡ u
   pub levels : s.basis.levels ≡ most
-  pub taken : HasTaken d u most s.taken s.wanted s.stage bytes
+  pub taken : HasTaken d u most s.taken s.wanted s.body s.stage bytes
 
 abbrev pub IsSpent : {B : Type 0} {ghosts : Ghosts B} → Stream B ghosts → Type 0
 IsSpent s = IsSpentStage s.stage

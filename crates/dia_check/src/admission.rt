@@ -1,6 +1,6 @@
 //! One AVP of an open level: its flags, its place, and its data.
 
-ghost use Rattle.std.specs.Prelude.{◌≡◌, ◌<◌, ◌↔◌, [], IfOk, OnOk, Some};
+ghost use Rattle.std.specs.Prelude.{◌≡◌, ◌<◌, ◌↔◌, [], OnOk, Some};
 ghost use Rattle.std.specs.Prelude.{length, slice_get, MatchOption, MatchResult, IsTrue};
 ghost use Rattle.dia_wire.specs.Wire.{plain_avp};
 ghost use Rattle.dia_book.specs.Dictionary.{DictEntry};
@@ -20,7 +20,7 @@ use crate::open_levels::{OpenLevels, Wrong};
 use dia_book::{Book, DefId, Entry, Leaf, MRule, accepts};
 use dia_terms::{Levels, Unknown};
 use dia_wire::{AVP_MANDATORY, Avp, Key, key};
-use std::alloc::{AllocError, Global};
+use std::alloc::AllocError;
 
 /// Checks an AVP of the innermost level. Answers the definition of a known group, whose data is a level to open.
 #[inline(always)]
@@ -73,26 +73,9 @@ fn missing_apart<B: Book>(book: &B, open_levels: &OpenLevels) -> Option<Wrong>
     open_levels.missing(&definition.rules, &definition.shape)
 }
 
-/// The open levels of a message of which nothing was read yet: its body alone, which ends at a place.
-pub(crate) fn open_body<B: Book>(
-    alloc: Global,
-    book: &B,
-    def: DefId,
-    end: usize,
-) -> Result<OpenLevels, AllocError>
-    requires { def < length (definitions (B.meaning book.now)) }
-    ensures { (definition : PlainDefinition)
-        → slice_get (definitions (B.meaning book.now)) def ≡ Some definition
-        → IfOk result (λ open_levels. AreOpenUnder
-        (B.meaning book.now) open_levels [] (begun definition.rules end)) }
-{
-    let definition = book.def(def);
-    OpenLevels::new(alloc, def, &definition.rules, &definition.shape, end)
-}
-
-/// The same, in the memory of other levels.
+/// Opens the body of a message of which nothing was read yet, which ends at a place, in the memory of other levels.
 #[inline(always)]
-pub(crate) fn reopen_body<B: Book>(
+pub(crate) fn open_body<B: Book>(
     book: &B,
     open_levels: &mut OpenLevels,
     def: DefId,

@@ -1,4 +1,4 @@
-ghost use Rattle.std.specs.Prelude.{◌≡◌, ◌≢◌, ◌↔◌, ◌<◌, ◌^◌, Err, ℕ, List, length, MatchResult, Result};
+ghost use Rattle.std.specs.Prelude.{◌≡◌, ◌≢◌, ◌↔◌, ◌<◌, ◌^◌, Err, IsTrue, ℕ, List, length, MatchResult, Result};
 ghost use Rattle.dia_book.specs.Dictionary.{Dictionary, IsDictionary};
 ghost use Rattle.dia_terms.specs.declared.Unknown.{Unknown as AnyPolicy};
 ghost use Rattle.dia_terms.specs.declared.Levels.{Levels as AnyLevels};
@@ -8,14 +8,16 @@ ghost use Rattle.dia_check.specs.declared.fault.Selected.{Selected as AnySelecte
 ghost use Rattle.dia_check.specs.declared.fault.Refusal.{Refusal as AnyRefusal};
 ghost use Rattle.dia_valid.specs.Valid.{IsValid, IsValidOf};
 ghost use Rattle.dia_check.specs.Faults.{IsAnswer, HasGoodHeader, HasLength, Occurs, Spot};
+ghost use Rattle.dia_check.specs.Streaming.{IsRefused, TakesAll};
 
-use crate::admission::reopen_body;
+use crate::admission::open_body;
 use crate::basis::Basis;
 use crate::body::read_avps;
 use crate::fault::{Refusal, Selected};
 use crate::header::{good_command, whole_header};
 use crate::open_levels::OpenLevels;
 use crate::room::Room;
+use crate::stream::{Progress, Stream, StreamFault};
 use dia_book::{Book, DefId};
 use dia_terms::{Levels, Unknown};
 use dia_wire::HEADER_LENGTH;
@@ -46,11 +48,54 @@ pub fn check<B: Book>(
     ensures no_memory { result ≡ Err Refusal.NoMemory → HasLength bytes.now (length bytes.now)
         × HasGoodHeader (B.meaning book.now) bytes.now }
 {
-    let mut room = Room::new(alloc);
-    check_in(&mut room, book, unknown, levels, bytes)
+    let mut stream = Stream::new(alloc, book, unknown, levels);
+    let fed = stream.feed(bytes);
+    if takes_all(fed, bytes) {
+        return stream.finish();
+    }
+    apart(fed, bytes)
 }
 
-/// The same, with memory that is used again for the next message.
+/// Whether a stream took all of the bytes that it was fed.
+fn takes_all(fed: Result<Progress, StreamFault>, bytes: &[u8]) -> bool
+    ensures { IsTrue result ↔ TakesAll bytes.now fed }
+{
+    match fed {
+        Ok(progress) => progress.taken == bytes.len(),
+        Err(_) => false,
+    }
+}
+
+/// The answer where more bytes follow than a stream takes, or where it was refused memory, which doesn't matter unless the
+/// message is whole.
+fn apart(fed: Result<Progress, StreamFault>, bytes: &[u8]) -> Result<Selected, Refusal>
+    requires { HasLength bytes.now (length bytes.now) → IsRefused fed }
+    ensures answer { (d : Dictionary) (u : AnyPolicy) (most : AnyLevels)
+        → IsAnswer d u most bytes.now result }
+    ensures no_memory { result ≡ Err Refusal.NoMemory → IsRefused fed × HasLength bytes.now (length bytes.now) }
+{
+    match whole_header(bytes) {
+        Err(refusal) => Err(refusal),
+        Ok(_) => refused(fed),
+    }
+}
+
+/// The answer where a stream was refused memory.
+fn refused(fed: Result<Progress, StreamFault>) -> Result<Selected, Refusal>
+    requires { IsRefused fed }
+    ensures { result ≡ Err Refusal.NoMemory }
+{
+    match fed {
+        Err(fault) => match fault {
+            StreamFault::NoMemory => Err(Refusal::NoMemory),
+            StreamFault::Spent => unreachable!(),
+        },
+        Ok(_) => unreachable!(),
+    }
+}
+
+/// The same, with memory that is used again for the next message. It reads the message in one pass of its own, without what a
+/// stream stores between pieces, so that many short messages are checked in little time.
 #[inline(always)]
 pub fn check_in<B: Book>(
     room: &mut Room,
@@ -93,7 +138,7 @@ fn check_body<B: Book>(
         → HasLength bytes.now (length bytes.now) → IsAnswer
         (B.meaning basis.now.book.now) basis.now.unknown basis.now.levels bytes.now result }
 {
-    reopen_body(basis.book, open_levels, def, bytes.len())?;
+    open_body(basis.book, open_levels, def, bytes.len())?;
     let body = &bytes[HEADER_LENGTH..];
     match read_avps(basis, open_levels, HEADER_LENGTH, body)? {
         None => Ok(Selected { def }),

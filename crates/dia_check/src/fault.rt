@@ -1,8 +1,8 @@
 use dia_book::DefId;
 use dia_wire::Key;
 use std::alloc::AllocError;
-use std::error::Error;
 use std::fmt;
+use thiserror::Error;
 
 /// The command of a valid message.
 #[derive(Clone, Copy, PartialEq, Eq)]
@@ -12,7 +12,7 @@ pub struct Selected {
 
 /// What is wrong with a message, with its result code (RFC 6733 section 7.1), in the order in which faults at one place are
 /// reported. Which code each gives, and the order, are our profile.
-#[derive(Debug, Clone, Copy, PartialEq, Eq)]
+#[derive(Debug, Clone, Copy, PartialEq, Eq, Error)]
 pub enum Reason {
     /// 5011: the version isn't 1.
     Version,
@@ -94,6 +94,18 @@ impl Reason {
     }
 }
 
+/// Prints the reason's word, such as `too-many`.
+impl fmt::Display for Reason {
+    ghost use Rattle.std.specs.Prelude.{Some};
+    ghost use Rattle.dia_check.specs.Reasons.{reason_word};
+
+    ghost output = { λ reason. Some (reason_word reason) };
+
+    fn fmt<W: fmt::Write>(&self, f: &mut fmt::Formatter<W>) -> fmt::Result {
+        f.write_str(self.word())
+    }
+}
+
 /// What a fault is about.
 #[derive(Debug, Clone, Copy, PartialEq, Eq)]
 pub enum Subject {
@@ -114,31 +126,22 @@ pub struct Fault {
 }
 
 /// Why a message is not valid, or why that is not known.
-#[derive(Clone, Copy, Debug, PartialEq, Eq)]
+#[derive(Clone, Copy, Debug, PartialEq, Eq, Error)]
 pub enum Refusal {
+    #[error("the message has a fault")]
     Fault(Fault),
     /// Fewer bytes than the header or than Message Length.
+    #[error("the message is truncated")]
     Truncated,
     /// More bytes than Message Length.
+    #[error("bytes follow the message")]
     Trailing,
+    #[error("out of memory")]
     NoMemory,
     /// The stream was refused memory before.
+    #[error("the stream is spent")]
     Spent,
 }
-
-impl fmt::Display for Refusal {
-    fn fmt<W: fmt::Write>(&self, f: &mut fmt::Formatter<W>) -> fmt::Result {
-        f.write_str(match self {
-            Refusal::Fault(_) => "the message has a fault",
-            Refusal::Truncated => "the message is truncated",
-            Refusal::Trailing => "bytes follow the message",
-            Refusal::NoMemory => "out of memory",
-            Refusal::Spent => "the stream is spent",
-        })
-    }
-}
-
-impl Error for Refusal {}
 
 impl From<AllocError> for Refusal {
     ghost use Rattle.std.specs.Prelude.{◌≡◌};

@@ -1,7 +1,7 @@
 //! The header of a message (RFC 6733 section 3).
 
 ghost use Rattle.std.specs.Prelude.{◌≡◌, ◌≢◌, ◌<◌, ◌^◌, ◌↔◌, ◌⊎◌, ℕ, List, length};
-ghost use Rattle.std.specs.Prelude.{Err, IfErr, MatchResult, IsTrue, IsFalse};
+ghost use Rattle.std.specs.Prelude.{Err, IfErr, IfOk, MatchResult, IsTrue, IsFalse};
 ghost use Rattle.dia_book.specs.Dictionary.{Dictionary};
 ghost use Rattle.dia_terms.specs.declared.Unknown.{Unknown as AnyPolicy};
 ghost use Rattle.dia_terms.specs.declared.Levels.{Levels as AnyLevels};
@@ -16,10 +16,10 @@ use dia_wire::{Header, MessageFault, split_message};
 /// The header of a message that is all of the bytes.
 #[inline(always)]
 pub(crate) fn whole_header(bytes: &[u8]) -> Result<Header, Refusal>
-    ensures answer { (d : Dictionary) (u : AnyPolicy) (most : AnyLevels)
-        → MatchResult result (λ header. HasHeader bytes.now header
-        × HasLength bytes.now (length bytes.now)
-        × (length bytes.now < 2 ^ 32)) (λ refusal. IsAnswer d u most bytes.now (Err refusal)) }
+    ensures whole { IfOk result (λ header. HasHeader bytes.now header
+        × HasLength bytes.now (length bytes.now) × (length bytes.now < 2 ^ 32)) }
+    ensures answer { IfErr result (λ refusal. (d : Dictionary) (u : AnyPolicy) (most : AnyLevels)
+        → IsAnswer d u most bytes.now (Err refusal)) }
     ensures memory { IfErr result (λ refusal. refusal ≢ Refusal.NoMemory) }
 {
     match split_message(bytes) {

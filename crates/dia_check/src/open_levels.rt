@@ -5,7 +5,7 @@ mod unmet;
 
 ghost use Rattle.std.specs.Prelude.{◌≡◌, ◌<◌, ◌≤◌, ◌↔◌, ◌++◌, ◌∷◌, [], List, Option};
 ghost use Rattle.std.specs.Prelude.{Some, drop, length, slice_get, MatchOption};
-ghost use Rattle.std.specs.Prelude.{OnOk, IfOk, IsTrue, IsFalse, MatchResult};
+ghost use Rattle.std.specs.Prelude.{OnOk, IsTrue, IsFalse, MatchResult};
 ghost use Rattle.dia_wire.specs.declared.Key.{Key as AnyKey};
 ghost use Rattle.dia_book.specs.declared.DRule.{DRule as AnyRule};
 ghost use Rattle.dia_book.specs.Dictionary.{AreRules, PlainDefinition, slot_of};
@@ -24,6 +24,7 @@ use crate::fault::{Reason, Subject};
 use dia_book::{DRule, DefId, Shape, Slot};
 use dia_wire::Key;
 use std::alloc::{AllocError, Global};
+use thiserror::Error;
 
 /// How many rules of a body its tally records from the start: all that a definition may have.
 const LAID_OUT_OF_BODY: usize = 1024;
@@ -69,7 +70,8 @@ pub(crate) struct OpenLevels {
 }
 
 /// What is wrong with an AVP or at the end of a level.
-#[derive(Clone, Copy)]
+#[derive(Clone, Copy, Debug, Error)]
+#[error("{reason}")]
 pub struct Wrong {
     pub reason: Reason,
     pub subject: Subject,
@@ -151,24 +153,6 @@ pub fn lead(run: usize, shape: &Shape, slot: Slot) -> (usize, Option<usize>)
 }
 
 impl OpenLevels {
-    /// The levels of a message of which nothing was read yet: its body alone, which ends at a place.
-    pub(crate) fn new(
-        alloc: Global,
-        def: DefId,
-        rules: &[DRule],
-        shape: &Shape,
-        end: usize,
-    ) -> Result<Self, AllocError>
-        requires { IsShape rules.now shape.now }
-        ensures { (defs : List PlainDefinition) (definition : PlainDefinition)
-            → slice_get defs def ≡ Some definition → definition.rules ≡ rules.now
-            → IfOk result (λ levels. AreOpen defs levels [] (begun rules.now end)) }
-    {
-        let mut levels = OpenLevels::empty(alloc);
-        levels.begin(def, rules, shape, end)?;
-        Ok(levels)
-    }
-
     /// Levels of no message, which have no memory yet.
     pub(crate) fn empty(alloc: Global) -> Self {
         OpenLevels {

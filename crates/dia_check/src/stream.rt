@@ -17,8 +17,9 @@ mod stages;
 
 use crate::basis::Basis;
 use crate::fault::{Refusal, Selected};
+use crate::open_levels::OpenLevels;
 use crate::stream::front::Front;
-use crate::stream::stages::{Stage, read_front, read_stage};
+use crate::stream::stages::{Body, Stage, read_front, read_stage};
 use dia_book::Book;
 use dia_terms::{Levels, Unknown};
 use dia_wire::HEADER_LENGTH;
@@ -32,13 +33,13 @@ use thiserror::Error;
 /// 20 bytes of a leaf's data.
 #[derive(Drop)]
 pub struct Stream<'a, B: Book> {
-    alloc: Global,
     basis: Basis<'a, B>,
     taken: usize,
     /// How many bytes are taken in all, as far as that is known: those of the header, and then Message Length.
     wanted: usize,
-    stage: Stage<'a>,
-    ghost holds: { ∥ IsStage (B.Book.meaning basis.book.now) basis.unknown basis.levels taken wanted stage ∥₁ },
+    body: Body<'a>,
+    stage: Stage,
+    ghost holds: { ∥ IsStage (B.Book.meaning basis.book.now) basis.unknown basis.levels taken wanted body stage ∥₁ },
 }
 
 /// What a stream did with a piece.
@@ -68,7 +69,6 @@ impl<'a, B: Book> Stream<'a, B> {
         ensures fresh { ¬ IsSpent result }
     {
         Stream {
-            alloc,
             basis: Basis {
                 book,
                 unknown,
@@ -76,6 +76,7 @@ impl<'a, B: Book> Stream<'a, B> {
             },
             taken: 0,
             wanted: HEADER_LENGTH,
+            body: Body::idle(OpenLevels::empty(alloc)),
             stage: Stage::Header(Front::new()),
         }
     }
@@ -84,6 +85,7 @@ impl<'a, B: Book> Stream<'a, B> {
     ///
     /// Bytes are taken until Message Length bytes were, also after a fault, or until 20 were where the version or Message
     /// Length is at fault. On `NoMemory` the stream is spent. Memory is taken only where a good header ends or a group begins.
+    #[inline(always)]
     pub fn feed(&mut self, piece: &[u8]) -> Result<Progress, StreamFault>
         ensures taken { IfOk result
             (λ progress. (d : Dictionary) (u : AnyPolicy) (most : AnyLevels) (bytes : List ℕ)
@@ -119,6 +121,7 @@ impl<'a, B: Book> Stream<'a, B> {
     }
 
     /// Takes bytes of the header, if it isn't whole. Answers how many.
+    #[inline(always)]
     fn take_header(&mut self, piece: &[u8]) -> Result<usize, StreamFault>
         requires { ¬ IsSpent self.old }
         ensures within { IfOk result (λ count. count ≤ length piece.now) }
@@ -135,7 +138,7 @@ impl<'a, B: Book> Stream<'a, B> {
         };
         let mut after = front;
         after.take_from(piece);
-        let (wanted, stage) = read_front(self.alloc, self.basis.book, after);
+        let (wanted, stage) = read_front(self.basis.book, after, &mut self.body);
         let count = after.len() - front.len();
         self.taken = after.len();
         self.wanted = wanted;
@@ -147,6 +150,7 @@ impl<'a, B: Book> Stream<'a, B> {
     }
 
     /// Takes bytes after the header, as far as they belong to the message. Answers how many.
+    #[inline(always)]
     fn take_body(&mut self, piece: &[u8]) -> Result<usize, StreamFault>
         requires header { 20 ≤ self.old.taken }
         requires not_spent { ¬ IsSpent self.old }
@@ -161,8 +165,10 @@ impl<'a, B: Book> Stream<'a, B> {
         ensures err { IfErr result (λ fault. (fault ≡ StreamFault.NoMemory) × IsSpent self.new) }
     {
         let count = piece.len().min(self.wanted - self.taken);
-        read_stage(&self.basis, &mut self.stage, self.taken, &piece[..count]);
+        let front = &piece[..count];
+        let stage = read_stage(&self.basis, &mut self.body, self.stage, self.taken, front);
         self.taken += count;
+        self.stage = stage;
         match &self.stage {
             Stage::NoMemory => Err(StreamFault::NoMemory),
             _ => Ok(count),
@@ -200,8 +206,8 @@ impl<'a, B: Book> Stream<'a, B> {
             → Denotes B.meaning self.now d u most bytes → CountsLevels d u most bytes result }
         ensures spent { IsSpent self.now → result ≡ 0 }
     {
-        match &self.stage {
-            Stage::InBody(body) => body.open_levels.depth() + 1,
+        match self.stage {
+            Stage::InBody => self.body.open_levels.depth() + 1,
             _ => 0,
         }
     }

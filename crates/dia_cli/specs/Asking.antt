@@ -35,12 +35,12 @@ IsRequestOf request found =
     IsAsked request.task request.origins found × IsFlag (codes "quiet") request.quiet found.1
     × (request.json ≡ is_given (first_of (codes "json") found.1))
 
--- the program's line, where `--unknown` is one of the two policies and `--sends` one of the three senders
+-- the program's line, where `--unknown` is one of the two policies and `--sends` one of the four senders
 pub record IsProgram (line : App) : Type 0 where
   pub policies : Bor (List (Bor Text))
   pub senders : Bor (List (Bor Text))
   pub two : texts policies.now ≡ policy_word Kept ∷ policy_word Refused ∷ []
-  pub three : texts senders.now ≡ sends_word sent.Any ∷ sends_word sent.Known ∷ sends_word sent.Listed ∷ []
+  pub four : texts senders.now ≡ sends_word sent.Any ∷ sends_word sent.Known ∷ sends_word sent.Filled ∷ sends_word sent.Listed ∷ []
   pub shape : line ≡ line_shape policies senders
 
 -- the request that clap's specification gives for words without a fault

@@ -7,7 +7,7 @@ use Rattle.clap.specs.Lexer.{strip_byte, usize_max}
 use Rattle.clap.specs.ValueTests.{is_unsigned_in}
 use Rattle.clap.specs.Walk.{Text}
 use Rattle.dia_terms.specs.declared.Sends.{Sends}
-use Rattle.dia_terms.specs.declared.Sends.TheVariants.{Any, Known, Listed}
+use Rattle.dia_terms.specs.declared.Sends.TheVariants.{Any, Known, Filled, Listed}
 use Rattle.dia_terms.specs.declared.Unknown.{Unknown}
 use Rattle.dia_terms.specs.declared.Unknown.TheVariants.{Kept, Refused}
 
@@ -85,6 +85,7 @@ policy_given Refused = Some (codes "refused")
 abbrev pub sender_given : Sends → Option Text
 sender_given Any = None
 sender_given Known = Some (codes "known")
+sender_given Filled = Some (codes "filled")
 sender_given Listed = Some (codes "listed")
 
 abbrev pub unknown_slot : Unknown → Slot

@@ -21,6 +21,7 @@ flag_word true = codes "true"
 abbrev pub sends_word : Sends → Text
 sends_word sent.Any = codes "any"
 sends_word sent.Known = codes "known"
+sends_word sent.Filled = codes "filled"
 sends_word sent.Listed = codes "listed"
 
 abbrev pub policy_word : Unknown → Text
@@ -73,7 +74,7 @@ is_policy word = option_map_or (λ w. bytes_eq w (codes "kept") || bytes_eq w (c
 
 abbrev pub is_sender : Option Text → Bool
 is_sender word =
-    option_map_or (λ w. bytes_eq w (codes "any") || (bytes_eq w (codes "known") || bytes_eq w (codes "listed"))) word false
+    option_map_or (λ w. bytes_eq w (codes "any") || (bytes_eq w (codes "known") || (bytes_eq w (codes "filled") || bytes_eq w (codes "listed")))) word false
 
 -- no word, or a decimal number below 2 ^ 32, which a `+` may begin
 abbrev pub is_limit : Option Text → Bool

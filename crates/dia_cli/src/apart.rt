@@ -4,7 +4,7 @@ ghost use Rattle.std.specs.Prelude.{◌≡◌};
 ghost use Rattle.dia_cli.specs.Apart.{first_option, mask_apart, second_option, show_apart};
 
 /// Two options of a command that don't go together.
-#[derive(Clone, Copy)]
+#[derive(Clone, Copy, Debug)]
 pub enum Apart {
     /// Of `check`: `--lines` and `--stream`.
     LinesAndStream,

@@ -43,6 +43,7 @@ use dia_io::Command;
 use dia_terms::{Levels, Sends, Unknown};
 use std::alloc::{AllocError, Global};
 use std::convert::AsStr;
+use thiserror::Error;
 
 mod answering;
 mod breaking;
@@ -56,7 +57,7 @@ mod showing;
 static POLICIES: [&str; 2] = ["kept", "refused"];
 
 /// The values of `--sends`, the senders.
-static SENDERS: [&str; 3] = ["any", "known", "listed"];
+static SENDERS: [&str; 4] = ["any", "known", "filled", "listed"];
 
 /// Reads the words, the program's own name first. `--version` shows this version.
 pub fn parse_words<'a, S: AsStr>(
@@ -148,12 +149,15 @@ struct Asked<'a> {
 }
 
 /// Why arguments that clap found are no request.
-#[derive(Clone, Copy)]
+#[derive(Clone, Copy, Debug, Error)]
 enum Unasked {
     /// They are no subcommand with its arguments.
+    #[error("no subcommand with its arguments")]
     Nothing,
     /// Two of them don't go together.
+    #[error("two options don't go together")]
     Apart(Apart),
+    #[error("out of memory")]
     NoMemory,
 }
 

@@ -12,19 +12,25 @@ use dia_io::{Exit, Failed, RunFault, Sink, ToWriter, put_all};
 use std::alloc::{AllocError, Global};
 use std::io;
 use std::io::Write;
+use thiserror::Error;
 
 /// Why the program ends without an outcome.
-#[derive(Drop)]
+#[derive(Debug, Drop, Error)]
 pub enum Ending<'a> {
     /// What clap shows: help or the version, with status 0, or a fault of the command line, with status 2.
+    #[error("a text of clap is shown")]
     Recorded(clap::Error),
     /// A word of the command line isn't UTF-8: status 2.
+    #[error("a word isn't UTF-8")]
     NotText,
     /// The command line names standard input twice: status 2.
+    #[error("standard input is named twice")]
     ReadTwice,
     /// The command line has two options that don't go together: status 2.
+    #[error("two options don't go together")]
     Apart(Apart),
     /// A file couldn't be opened, or a device failed: status 3.
+    #[error("{name}: the device failed")]
     Device {
         /// The input as the command line names it, or a stream by its name.
         name: &'a str,
@@ -32,6 +38,7 @@ pub enum Ending<'a> {
         error: Option<io::Error>,
     },
     /// Memory was refused: status 3.
+    #[error("out of memory")]
     NoMemory,
 }
 

@@ -91,6 +91,7 @@ pub(crate) fn sends_of(word: &str) -> Option<Sends>
     match word {
         "any" => Some(Sends::Any),
         "known" => Some(Sends::Known),
+        "filled" => Some(Sends::Filled),
         "listed" => Some(Sends::Listed),
         _ => None,
     }

@@ -12,9 +12,9 @@ use Rattle.dia_wire.specs.declared.Key.{Key}
 use Rattle.dia_book.specs.Dictionary.{Dictionary, DictEntry, PlainDefinition, definitions, group_place}
 use Rattle.dia_book.proofs.Lists.{position-within}
 use Rattle.dia_book.proofs.Members.{list_any-none_at}
-use Rattle.dia_inclusion.specs.PairTests.{command_named}
-use Rattle.dia_inclusion.proofs.FilteredMembers.{none_more_at}
-use Rattle.dia_inclusion.proofs.SetsOfNames.{get_none}
+use Rattle.dia_compat.specs.PairTests.{command_named}
+use Rattle.dia_compat.proofs.FilteredMembers.{none_more_at}
+use Rattle.dia_compat.proofs.SetsOfNames.{get_none}
 use Rattle.dia_compared_json.specs.Parts.{Side, avp_side}
 
 -- so many fail the test before the first that passes it

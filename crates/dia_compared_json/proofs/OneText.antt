@@ -7,18 +7,18 @@ use Rattle.dia_book.specs.Dictionary.{Dictionary, DictEntry}
 use Rattle.dia_valid.proofs.Entries.{at_position}
 use Rattle.dia_terms.specs.declared.Unknown.{Unknown}
 use Rattle.dia_io.specs.declared.Exit.{Exit}
-use Rattle.dia_inclusion.specs.declared.Answer.{Answer}
-use Rattle.dia_inclusion.specs.declared.Answer.TheVariants.{Yes, No}
-use Rattle.dia_inclusion.specs.declared.Failing.{Failing}
-use Rattle.dia_inclusion.specs.declared.Failing.TheVariants as failing
-use Rattle.dia_inclusion.specs.declared.PairKind.{PairKind}
-use Rattle.dia_inclusion.specs.declared.PairKind.TheVariants as kind
-use Rattle.dia_inclusion.specs.declared.Test.{Test}
-use Rattle.dia_inclusion.specs.Failings.{AreAvpFailings, AreDeclarationFailings, AreEntryFailings, AreFailings, AreFailingsOf, is_tenth, pairs_in, unless}
-use Rattle.dia_inclusion.specs.PairTests.{NamePair, entry_named}
-use Rattle.dia_inclusion.specs.Sides.{Compared, compared}
-use Rattle.dia_tables.specs.TableText.{PlainTable}
-use Rattle.dia_inclusion.proofs.OneAnswer.{one_comparison}
+use Rattle.dia_compat.specs.declared.Answer.{Answer}
+use Rattle.dia_compat.specs.declared.Answer.TheVariants.{Yes, No}
+use Rattle.dia_compat.specs.declared.Failing.{Failing}
+use Rattle.dia_compat.specs.declared.Failing.TheVariants as failing
+use Rattle.dia_compat.specs.declared.PairKind.{PairKind}
+use Rattle.dia_compat.specs.declared.PairKind.TheVariants as kind
+use Rattle.dia_compat.specs.declared.Test.{Test}
+use Rattle.dia_compat.specs.Failings.{AreAvpFailings, AreDeclarationFailings, AreEntryFailings, AreFailings, AreFailingsOf, is_tenth, pairs_in, unless}
+use Rattle.dia_compat.specs.PairTests.{NamePair, entry_named}
+use Rattle.dia_compat.specs.Sides.{Compared, compared}
+use Rattle.dia_compat.specs.TableText.{PlainTable}
+use Rattle.dia_compat.proofs.OneAnswer.{one_comparison}
 use Rattle.dia_compared_json.specs.Compared.{ComparisonHasOneText, IsAnswerJson, IsFailureJson}
 use Rattle.dia_compared_json.specs.Failures.{failure_json}
 

@@ -9,16 +9,16 @@ use Rattle.serde_json.specs.Written.{compact_text}
 use Rattle.serde_json.proofs.OnLiterals.{serde_json_on_literals}
 use Rattle.dia_dict.specs.Dictionary.{Dictionary}
 use Rattle.dia_terms.specs.declared.Unknown.{Unknown}
-use Rattle.dia_inclusion.specs.declared.Answer.{Answer}
-use Rattle.dia_inclusion.specs.declared.Answer.TheVariants.{Yes, No}
-use Rattle.dia_inclusion.specs.declared.Failing.{Failing}
-use Rattle.dia_inclusion.specs.declared.PairKind.{PairKind}
-use Rattle.dia_inclusion.specs.declared.PairKind.TheVariants as kind
-use Rattle.dia_tables.specs.declared.Table.{Table}
-use Rattle.dia_inclusion.specs.declared.Test.{Test}
-use Rattle.dia_inclusion.specs.Closed.{pairs_of}
-use Rattle.dia_inclusion.specs.Failings.{AreFailingsFor, AreFailingsOf}
-use Rattle.dia_tables.specs.TableText.{PlainTable, plain_pair, plain_table}
+use Rattle.dia_compat.specs.declared.Answer.{Answer}
+use Rattle.dia_compat.specs.declared.Answer.TheVariants.{Yes, No}
+use Rattle.dia_compat.specs.declared.Failing.{Failing}
+use Rattle.dia_compat.specs.declared.PairKind.{PairKind}
+use Rattle.dia_compat.specs.declared.PairKind.TheVariants as kind
+use Rattle.dia_compat.specs.declared.Table.{Table}
+use Rattle.dia_compat.specs.declared.Test.{Test}
+use Rattle.dia_compat.specs.Closed.{pairs_of}
+use Rattle.dia_compat.specs.Failings.{AreFailingsFor, AreFailingsOf}
+use Rattle.dia_compat.specs.TableText.{PlainTable, plain_pair, plain_table}
 use Rattle.dia_io.specs.declared.Exit.TheVariants as exits
 use Rattle.dia_run.specs.declared.commands.Outcome.{Outcome}
 use Rattle.dia_refused_json.specs.Members.{json_line, verdict_members}

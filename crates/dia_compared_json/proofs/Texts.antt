@@ -18,14 +18,14 @@ use Rattle.dia_book.specs.declared.MRule.TheVariants.{Must}
 use Rattle.dia_book.specs.declared.DefHead.{DefHead}
 use Rattle.dia_book.specs.declared.DRule.{DRule}
 use Rattle.dia_book.specs.Dictionary.{Dictionary, DictEntry, PlainDefinition, is_fixed}
-use Rattle.dia_inclusion.specs.declared.Failing.{Failing}
-use Rattle.dia_inclusion.specs.declared.Failing.TheVariants as failing
-use Rattle.dia_inclusion.specs.declared.PairKind.{PairKind}
-use Rattle.dia_inclusion.specs.declared.PairKind.TheVariants as kind
-use Rattle.dia_inclusion.specs.declared.Test.{Test}
-use Rattle.dia_inclusion.specs.declared.Test.TheVariants as tests
-use Rattle.dia_inclusion.specs.PairTests.{NamePair}
-use Rattle.dia_inclusion.specs.PairTests.{p_of}
+use Rattle.dia_compat.specs.declared.Failing.{Failing}
+use Rattle.dia_compat.specs.declared.Failing.TheVariants as failing
+use Rattle.dia_compat.specs.declared.PairKind.{PairKind}
+use Rattle.dia_compat.specs.declared.PairKind.TheVariants as kind
+use Rattle.dia_compat.specs.declared.Test.{Test}
+use Rattle.dia_compat.specs.declared.Test.TheVariants as tests
+use Rattle.dia_compat.specs.PairTests.{NamePair}
+use Rattle.dia_compat.specs.PairTests.{p_of}
 use Rattle.dia_run.specs.Pairs.{test_word}
 use Rattle.dia_refused_json.specs.Members.{json_line, named_members}
 use Rattle.dia_compared_json.specs.Failures.{failure_members, kind_word}

@@ -4,15 +4,15 @@ use Rattle.serde_json.specs.Data.{no_members}
 use Rattle.dia_dict.specs.Dictionary.{Dictionary}
 use Rattle.dia_dict.specs.declared.IndexedBook.{IndexedBook}
 use Rattle.dia_terms.specs.declared.Unknown.{Unknown}
-use Rattle.dia_inclusion.specs.declared.Answer.{Answer}
-use Rattle.dia_inclusion.specs.declared.Answer.TheVariants.{Yes as Passed, No as Failed}
-use Rattle.dia_inclusion.specs.declared.Failing.{Failing}
-use Rattle.dia_inclusion.specs.declared.PairKind.{PairKind}
-use Rattle.dia_inclusion.specs.declared.Test.{Test}
-use Rattle.dia_inclusion.specs.Closed.{IsTableAnswer as IsCompared}
-use Rattle.dia_inclusion.specs.Failings.{AreFailingsFor, AreFailingsOf}
-use Rattle.dia_inclusion.specs.PairTests.{NamePair}
-use Rattle.dia_tables.specs.TableText.{PlainTable, plain_table}
+use Rattle.dia_compat.specs.declared.Answer.{Answer}
+use Rattle.dia_compat.specs.declared.Answer.TheVariants.{Yes as Passed, No as Failed}
+use Rattle.dia_compat.specs.declared.Failing.{Failing}
+use Rattle.dia_compat.specs.declared.PairKind.{PairKind}
+use Rattle.dia_compat.specs.declared.Test.{Test}
+use Rattle.dia_compat.specs.Closed.{IsTableAnswer as IsCompared}
+use Rattle.dia_compat.specs.Failings.{AreFailingsFor, AreFailingsOf}
+use Rattle.dia_compat.specs.PairTests.{NamePair}
+use Rattle.dia_compat.specs.TableText.{PlainTable, plain_table}
 use Rattle.dia_io.specs.declared.Inputs.{Inputs}
 use Rattle.dia_io.specs.declared.Exit.{Exit}
 use Rattle.dia_io.specs.declared.Exit.TheVariants.{No, Yes}

@@ -2,12 +2,12 @@
 use Rattle.std.specs.Prelude.{List, ℕ, map, codes}
 use Rattle.serde_json.specs.Data.{Data, Members, array, member, no_members, string}
 use Rattle.dia_book.specs.Dictionary.{Dictionary}
-use Rattle.dia_inclusion.specs.declared.Failing.{Failing}
-use Rattle.dia_inclusion.specs.declared.PairKind.{PairKind}
-use Rattle.dia_inclusion.specs.declared.PairKind.TheVariants as kind
-use Rattle.dia_inclusion.specs.declared.Test.{Test}
-use Rattle.dia_inclusion.specs.PairTests.{NamePair}
-use Rattle.dia_tables.specs.TableText.{PlainTable}
+use Rattle.dia_compat.specs.declared.Failing.{Failing}
+use Rattle.dia_compat.specs.declared.PairKind.{PairKind}
+use Rattle.dia_compat.specs.declared.PairKind.TheVariants as kind
+use Rattle.dia_compat.specs.declared.Test.{Test}
+use Rattle.dia_compat.specs.PairTests.{NamePair}
+use Rattle.dia_compat.specs.TableText.{PlainTable}
 use Rattle.dia_run.specs.Pairs.{test_word}
 use Rattle.dia_refused_json.specs.Members.{json_line, verdict_members}
 use Rattle.dia_compared_json.specs.Objects.{items_of}

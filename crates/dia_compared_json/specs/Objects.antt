@@ -17,7 +17,7 @@ use Rattle.dia_book.specs.declared.DRule.{DRule}
 use Rattle.dia_book.specs.declared.Definition.{Definition}
 use Rattle.dia_book.specs.Dictionary.{Dictionary, DictEntry, PlainDefinition, is_fixed, plain_definition, same_class}
 use Rattle.dia_valid.specs.Valid.{known}
-use Rattle.dia_inclusion.specs.PairTests.{p_of}
+use Rattle.dia_compat.specs.PairTests.{p_of}
 use Rattle.dia_refused_json.specs.Members.{named_members}
 
 -- ---- numbers and arrays

@@ -6,11 +6,11 @@ use Rattle.dia_wire.specs.declared.Key.{Key}
 use Rattle.dia_book.specs.declared.DRule.{DRule}
 use Rattle.dia_book.specs.Dictionary.{Dictionary, PlainDefinition, definitions, group_place}
 use Rattle.dia_valid.specs.Valid.{is_wildcard}
-use Rattle.dia_inclusion.specs.declared.PairKind.{PairKind}
-use Rattle.dia_inclusion.specs.declared.PairKind.TheVariants as kind
-use Rattle.dia_inclusion.specs.declared.Failing.{Failing}
-use Rattle.dia_inclusion.specs.declared.Failing.TheVariants as failing
-use Rattle.dia_inclusion.specs.PairTests.{command_named, entry_named}
+use Rattle.dia_compat.specs.declared.PairKind.{PairKind}
+use Rattle.dia_compat.specs.declared.PairKind.TheVariants as kind
+use Rattle.dia_compat.specs.declared.Failing.{Failing}
+use Rattle.dia_compat.specs.declared.Failing.TheVariants as failing
+use Rattle.dia_compat.specs.PairTests.{command_named, entry_named}
 use Rattle.dia_compared_json.specs.declared.parts.Part.{Part}
 use Rattle.dia_compared_json.specs.declared.parts.Part.TheVariants as part
 use Rattle.dia_compared_json.specs.Objects.{avp_value, command_value, declared_value, rule_members}

@@ -4,7 +4,7 @@ ghost use Rattle.std.specs.Prelude.{◌≡◌, IfOk, string_bytes, true};
 ghost use Rattle.serde_json.specs.Data.{object};
 ghost use Rattle.serde_json.specs.Written.{compact_text, members_text};
 ghost use Rattle.dia_book.specs.Dictionary.{plain_definition};
-ghost use Rattle.dia_inclusion.specs.PairTests.{p_of};
+ghost use Rattle.dia_compat.specs.PairTests.{p_of};
 ghost use Rattle.dia_compared_json.specs.Objects.{app_of, code_of, command_members, command_value, head_members};
 ghost use Rattle.dia_compared_json.specs.Objects.{is_of_requests, p_value, plain_found};
 

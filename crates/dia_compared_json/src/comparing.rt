@@ -1,9 +1,9 @@
 //! `compare` as JSON.
 
 ghost use Rattle.std.specs.Prelude.{◌≡◌, ◌≢◌, ◌<◌, ◌↔◌, [], IfOk, length, string_bytes};
-ghost use Rattle.dia_inclusion.specs.Closed.{IsTableAnswer};
-ghost use Rattle.dia_inclusion.specs.Failings.{AreFailingsFor, AreFailingsOf};
-ghost use Rattle.dia_tables.specs.TableText.{plain_table};
+ghost use Rattle.dia_compat.specs.Closed.{IsTableAnswer};
+ghost use Rattle.dia_compat.specs.Failings.{AreFailingsFor, AreFailingsOf};
+ghost use Rattle.dia_compat.specs.TableText.{plain_table};
 ghost use Rattle.dia_compared_json.specs.Compared.{IsAnswerJson, IsCompareJson, IsCompareReport, IsFailureJson};
 ghost use Rattle.dia_compared_json.specs.Failures.{pairs_listed};
 ghost use Rattle.dia_refused_json.specs.Recording.{HasReport};
@@ -11,13 +11,12 @@ ghost use Rattle.dia_refused_json.specs.Recording.{HasReport};
 use crate::failures::{failure_text, pair_at};
 use dia_book::Book;
 use dia_check::Unknown;
+use dia_compat::{Answer, Failing, PairKind, Table, Test, Verdict, judge_table};
 use dia_dict::IndexedBook;
-use dia_inclusion::{Answer, Failing, PairKind, Test, Verdict, judge_table};
 use dia_io::{Exit, Inputs};
 use dia_refused_json::refuse;
 use dia_report::{Answered, BothBooks, Compared, Report};
 use dia_run::{Outcome, read_dictionary, read_table, recorded};
-use dia_tables::Table;
 use std::alloc::{AllocError, Global};
 
 /// The object of an answer, how the program ends, and the answer with what fails.

@@ -6,7 +6,7 @@ ghost use Rattle.dia_compared_json.specs.Parts.{accepted_part, sent_part};
 use crate::parts::Part;
 use crate::sides::Side;
 use dia_book::Book;
-use dia_inclusion::Failing;
+use dia_compat::Failing;
 
 /// What the first dictionary says of it.
 pub fn sent_part<A: Book>(a: &Side<'_, A>, failing: Failing) -> Part

@@ -3,7 +3,7 @@
 ghost use Rattle.std.specs.Prelude.{◌≡◌};
 ghost use Rattle.dia_compared_json.specs.Parts.{why_word};
 
-use dia_inclusion::Failing;
+use dia_compat::Failing;
 
 pub fn why_word(failing: Failing) -> &'static str
     ensures { result.now ≡ why_word failing }

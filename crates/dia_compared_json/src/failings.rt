@@ -13,7 +13,7 @@ use crate::failing_words::why_word;
 use crate::parts::{Part, part_text};
 use crate::sides::Side;
 use dia_book::Book;
-use dia_inclusion::Failing;
+use dia_compat::Failing;
 use dia_refused_json::quoted;
 use std::alloc::{AllocError, Global};
 

@@ -3,7 +3,7 @@
 ghost use Rattle.std.specs.Prelude.{◌≡◌, ◌<◌, IfOk, List, Some, length, slice_get, string_bytes};
 ghost use Rattle.serde_json.specs.Data.{Data, array};
 ghost use Rattle.serde_json.specs.Written.{compact_text};
-ghost use Rattle.dia_tables.specs.TableText.{plain_pair, plain_table};
+ghost use Rattle.dia_compat.specs.TableText.{plain_pair, plain_table};
 ghost use Rattle.dia_refused_json.specs.Members.{json_line};
 ghost use Rattle.dia_compared_json.specs.Objects.{items_of};
 ghost use Rattle.dia_compared_json.specs.Failures.{failure_json, failure_members, kind_word, pairs_listed};
@@ -11,10 +11,9 @@ ghost use Rattle.dia_compared_json.specs.Failures.{failure_json, failure_members
 use crate::failings::failings_text;
 use crate::sides::Side;
 use dia_book::Book;
-use dia_inclusion::{Failing, PairKind, Test};
+use dia_compat::{Failing, PairKind, Table, Test};
 use dia_refused_json::quoted;
 use dia_run::test_word;
-use dia_tables::Table;
 use std::alloc::{AllocError, Global};
 
 /// The pair at this place of the table.

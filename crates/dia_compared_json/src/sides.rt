@@ -3,11 +3,11 @@
 ghost use Rattle.std.specs.Prelude.{◌≡◌, ◌<◌, length, option_and_then, slice_get};
 ghost use Rattle.std.specs.Str.{bytes_eq};
 ghost use Rattle.dia_book.specs.Dictionary.{definitions, group_place};
-ghost use Rattle.dia_inclusion.specs.PairTests.{command_named, entry_named};
+ghost use Rattle.dia_compat.specs.PairTests.{command_named, entry_named};
 ghost use Rattle.dia_compared_json.specs.Objects.{plain_found};
 
 use dia_book::{Book, DRule, Definition, Entry, Key};
-use dia_inclusion::PairKind;
+use dia_compat::PairKind;
 use std::marker::Model;
 
 /// A dictionary, and what a name of a pair denotes in it.

@@ -12,3 +12,4 @@ pub mod AddressGroups
 pub mod ShownValues
 pub mod Decimals
 pub mod NamedFormats
+mod HexDigits

@@ -1,5 +1,5 @@
 //! Values as text.
-ghost use Rattle.std.specs.Prelude.{◌≡◌, ◌<◌, ◌++◌, IfOk, OnOk, length, map, string_bytes};
+ghost use Rattle.std.specs.Prelude.{◌≡◌, ◌<◌, ◌++◌, ◌/◌, ◌%◌, IfOk, OnOk, length, map, string_bytes};
 ghost use Rattle.std.specs.Fmt.{decimal};
 ghost use Rattle.std.specs.Int.{w32, w64};
 ghost use Rattle.std.specs.List.{join_with_byte};
@@ -12,6 +12,7 @@ ghost use Rattle.dia_data.specs.Plain.{plain_format};
 use crate::accept::{Leaf, accepts};
 use crate::format::{Format, FormatKind, Reading};
 use byteorder::{BigEndian, ByteOrder};
+use hex::encode_to_slice;
 use itoa::{Buffer, Integer};
 use std::alloc::{AllocError, Global};
 
@@ -213,13 +214,17 @@ fn push_hexadecimal(out: &mut String, bytes: &[u8]) -> Result<(), AllocError>
 pub fn push_hex_byte(out: &mut String, byte: u8) -> Result<(), AllocError>
     ensures { OnOk result (string_bytes out.new ≡ string_bytes out.old ++ hex_byte byte) }
 {
-    out.push(hex_digit(byte / 16))?;
-    out.push(hex_digit(byte % 16))
+    let (high, low) = hex_digits(byte);
+    out.push(high)?;
+    out.push(low)
 }
 
-fn hex_digit(n: u8) -> char
-    requires { n < 16 }
-    ensures { result ≡ hex_digit n }
+/// The two digits of a byte.
+#[tactic(auto, using(crate::proofs::HexDigits::digits_are))]
+fn hex_digits(byte: u8) -> (char, char)
+    ensures { result ≡ (hex_digit (byte / 16), hex_digit (byte % 16)) }
 {
-    char::from(if n < 10 { b'0' + n } else { b'a' + (n - 10) })
+    let mut digits = [0; 2];
+    encode_to_slice([byte].as_slice(), &mut digits).unwrap();
+    (char::from(digits[0]), char::from(digits[1]))
 }

@@ -7,7 +7,7 @@ use Rattle.dia_ccf.specs.Plain.{PlainSource, PlainDecl, PlainDef}
 use Rattle.dia_dict.specs.declared.fault.DictKind.{DictKind}
 use Rattle.dia_dict.specs.declared.fault.DictKind.TheVariants.{NoGroupFormat, DuplicateKey}
 use Rattle.dia_dict.specs.declared.fault.DictFault.{DictFault}
-use Rattle.dia_dict.specs.declared.fault.DictFault.TheVariants.{Occurs}
+use Rattle.dia_dict.specs.declared.fault.DictFault.TheVariants.{Stands}
 use Rattle.dia_dict.specs.declared.findings.Part.{Part}
 use Rattle.dia_dict.specs.Base.{base_source}
 use Rattle.dia_dict.specs.Resolution.{first_wrong, IsRecordedOf, wrong_limits, wrong_names, no_groups, header_mismatches, duplicate_keys, duplicate_commands, wrong_rules}
@@ -61,5 +61,5 @@ first_wrong-base_source = none_wrong base_source
     refl wrong_names-base_source no_groups-base_source header_mismatches-base_source duplicate_keys-base_source duplicate_commands-base_source wrong_rules-base_source
 
 -- no fault of a sound source can be reported
-pub none_recorded : (s : PlainSource) (fault : DictFault) (kind : DictKind) (name slot : String Global) → first_wrong s ≡ None → fault ≡ Occurs kind name slot → IsRecordedOf s fault → ⊥
-none_recorded s fault kind name slot sound occurs recorded = let recorded_so : IsRecordedOf s (Occurs kind name slot) = subst (IsRecordedOf s) occurs recorded in none-some _ (sym sound ∙ recorded_so)
+pub none_recorded : (s : PlainSource) (fault : DictFault) (kind : DictKind) (name slot : String Global) → first_wrong s ≡ None → fault ≡ Stands kind name slot → IsRecordedOf s fault → ⊥
+none_recorded s fault kind name slot sound occurs recorded = let recorded_so : IsRecordedOf s (Stands kind name slot) = subst (IsRecordedOf s) occurs recorded in none-some _ (sym sound ∙ recorded_so)

@@ -1,5 +1,7 @@
 pub mod Places
+pub mod Maps
+pub mod Filling
 pub mod Selectors
-pub mod CommandTables
 pub mod Premises
-pub mod Tables
+pub mod Applications
+pub mod Slots

@@ -3,7 +3,6 @@ pub use Rattle.dia_book.proofs.SameKeys
 pub use Rattle.dia_book.proofs.NumberedGroups
 pub use Rattle.dia_book.proofs.LookUpsByName
 pub use Rattle.dia_book.proofs.Members
-pub mod KeyTables
 pub mod BookRows
 pub mod Repeats
 pub mod Firsts

@@ -2,12 +2,7 @@
 use Rattle.std.proofs.Common.{◌≡◌, ℕ, ◌+◌, ◌<◌, List, [], ◌∷◌, ◌++◌, length, map, take, get_or, sym, ap, ◌∙◌}
 use Rattle.std.proofs.lemmas.List.{append_assoc, map-append, map_more}
 
-pub made-more : {X Y : Type 0} (f : X → Y) (xs : List X) (i : ℕ) (x : X) (made next : List Y) (y : Y) → i < length xs → x ≡ get_or xs i x
-    → made ≡ map f (take i xs) → y ≡ f x → next ≡ made ++ y ∷ [] → next ≡ map f (take (i + 1) xs)
-made-more {X} {Y} f xs i x made next y within read so one more =
-    more ∙ ap (λ (ys : List Y). ys ++ y ∷ []) so ∙ ap (λ (z : Y). map f (take i xs) ++ z ∷ []) (one ∙ ap f read) ∙ sym (map_more f xs i x within)
-
--- the same for members that are seen by their views, and for a list that was begun
+-- members that are seen by their views, and a list that was begun
 module _ {X Y Z : Type 0} (g : Y → Z) (f : X → Y) (xs : List X) (i : ℕ) (x : X) (within : i < length xs) (read : x ≡ get_or xs i x) where
   seen-more : map g (map f (take (i + 1) xs)) ≡ map g (map f (take i xs)) ++ g (f x) ∷ []
   seen-more =

@@ -5,12 +5,9 @@ use Rattle.std.specs.List.{list_any}
 use Rattle.std.specs.Option.{option_map, option_map_or, option_or}
 use Rattle.dia_wire.specs.declared.Key.{Key}
 use Rattle.dia_data.specs.Plain.{Grouped, format_of}
-use Rattle.dia_terms.specs.declared.FormatName.TheVariants as name
 use Rattle.dia_book.specs.Limits.{max_parts}
-use Rattle.dia_dict.specs.declared.fault.DictKind.TheVariants as kind
-use Rattle.dia_ccf.specs.declared.source.Head.TheVariants as head
 use Rattle.dia_terms.specs.Names.{is_name}
-use Rattle.dia_ccf.specs.Names.{is_group, fixed_first}
+use Rattle.dia_ccf.specs.Names.{is_group}
 use Rattle.dia_ccf.specs.CanonicalText.{slot_text}
 use Rattle.dia_ccf.specs.Plain.{PlainSource, PlainDecl, PlainDef, PlainRule}
 use Rattle.dia_book.specs.Keys.{same_key}
@@ -18,7 +15,7 @@ use Rattle.dia_book.specs.declared.DRule.{DRule}
 use Rattle.dia_book.specs.declared.DefHead.TheVariants.{Group}
 use Rattle.dia_book.specs.Dictionary.{PlainDefinition, DictEntry, IsDictionary, AreRules, IsSameSelector, IsCommandHead, IsLeast, is_fixed, groups as groups_of, definitions, entry_of}
 use Rattle.dia_dict.specs.Resolution.{resolved, declared_entry, bare_entry, bare_groups, definition_of, rule_of, head_of, key_of_name, key_of_decl, group_key, names_decl, names_def}
-use Rattle.dia_dict.specs.Resolution.{is_bare, agrees_with, is_grouped, least, slot_name, same_slot}
+use Rattle.dia_dict.specs.Resolution.{is_bare, agrees_with, is_grouped, slot_name, same_slot}
 use Rattle.std.proofs.lemmas.Bool.{and_parts, both_ways, not-false, not-true}
 use Rattle.std.proofs.lemmas.List.{map-append, length-map, length-append}
 use Rattle.std.proofs.lemmas.List.Filters.{length-filter_both}

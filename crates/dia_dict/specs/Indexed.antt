@@ -1,37 +1,42 @@
--- What the tables of an indexed book say of the lists that it looks up.
-use Rattle.std.specs.Prelude.{◌≡◌, ℕ, List, length, map, Option, Some, None, position, slice_get}
+-- What the maps of an indexed book hold, of the lists that it looks up.
+use Rattle.std.specs.Prelude.{◌≡◌, ◌+◌, ℕ, List, length, Option, Some, position, slice_get, unwrap_or, Bool}
+use Rattle.std.specs.Option.{option_map}
+use Rattle.indexmap.specs.IndexMap.{IndexMap, get}
 use Rattle.dia_wire.specs.declared.Key.{Key}
-use Rattle.dia_book.specs.declared.DRule.{DRule}
 use Rattle.dia_book.specs.declared.Definition.{Definition}
+use Rattle.dia_book.specs.declared.Slot.{Slot}
+use Rattle.dia_book.specs.declared.Slot.TheVariants.{Unlisted}
+use Rattle.dia_book.specs.declared.Class.{Class}
+use Rattle.dia_book.specs.Dictionary.{slot_of, is_command}
+use Rattle.dia_book.specs.Keys.{same_key}
 use Rattle.dia_dict.specs.declared.entry_list.Row.{Row}
-use Rattle.dia_dict.specs.declared.key_table.KeyTable.{KeyTable}
-use Rattle.dia_dict.specs.declared.indexed_book.commands.CommandTables.{CommandTables}
-use Rattle.dia_book.specs.declared.Class.TheVariants.{Request, Answer, Error}
-use Rattle.dia_book.specs.Dictionary.{IsSameSelector, is_command}
-use Rattle.dia_dict.specs.KeyTables.{place_among, IsIndexOf}
-use Rattle.dia_dict.specs.Selectors.{app_key, general_key}
+use Rattle.dia_dict.specs.declared.hashing.Hashing.{Hashing}
+use Rattle.dia_dict.specs.declared.key_map.KeyMap.{KeyMap}
+use Rattle.dia_dict.specs.declared.plain_book.PlainBook.{PlainBook}
+use Rattle.dia_dict.specs.declared.selectors.Selector.{Selector}
+use Rattle.dia_dict.specs.Selectors.{selector_of}
 
-abbrev pub row_keys : List Row → List (Option Key)
-row_keys rows = map (λ row. Some row.key) rows
+-- the entries by their keys
+abbrev pub AreEntries : KeyMap ℕ → List Row → Type 0
+AreEntries entries rows = (key : Key) → get same_key entries.map key ≡ position (λ row. same_key key row.key) rows
 
-abbrev pub rule_keys : List DRule → List (Option Key)
-rule_keys rules = map (λ rule. rule.key) rules
+-- the place of a selector's command, by an equality of selectors
+abbrev pub command_place : (Selector → Selector → Bool) → List Definition → Selector → Option ℕ
+command_place eq commands selector = position (λ d. eq selector (selector_of d.head)) commands
 
--- the places of a definition's keys among its rules
-abbrev pub IsSlotTable : KeyTable → Definition → Type 0
-IsSlotTable table d = IsIndexOf table.rows.items (place_among (rule_keys d.rules.items))
+-- the numbers of commands by what they are for, where the groups are numbered first
+abbrev pub AreCommands : (Selector → Selector → Bool) → IndexMap Selector ℕ Hashing → ℕ → List Definition → Type 0
+AreCommands eq selected groups commands = (selector : Selector) → get eq selected selector ≡ option_map (λ i. groups + i) (command_place eq commands selector)
 
--- a table for each definition
-abbrev pub AreSlotTables : List KeyTable → List Definition → Type 0
-AreSlotTables tables ds = (length tables ≡ length ds)
-    × ((i : ℕ) (table : KeyTable) (d : Definition) → slice_get tables i ≡ Some table → slice_get ds i ≡ Some d → IsSlotTable table d)
+-- the number of the command of this code and class, and of this application or none
+abbrev pub command_number : PlainBook → ℕ → Class → Option ℕ → Option ℕ
+command_number book code class app = option_map (λ i. length book.entries.groups.items + i) (position (λ d. is_command code class app d.head) book.commands.items)
 
-abbrev pub HaveDistinctSelectors : List Definition → Type 0
-HaveDistinctSelectors ds = (i j : ℕ) (x y : Definition) → slice_get ds i ≡ Some x → slice_get ds j ≡ Some y → IsSameSelector x.head y.head → i ≡ j
+-- the slots of a definition's keys
+abbrev pub AreSlots : KeyMap Slot → Definition → Type 0
+AreSlots slots d = (key : Key) → unwrap_or (get same_key slots.map key) Unlisted ≡ slot_of d.rules.items key
 
--- the places of commands: those for an application by class, those for all applications, and the one for errors
-pub record AreCommandTables (tables : CommandTables) (ds : List Definition) : Type 0 where
-  pub requests : IsIndexOf tables.requests.rows.items (place_among (map (λ d. app_key Request d.head) ds))
-  pub answers : IsIndexOf tables.answers.rows.items (place_among (map (λ d. app_key Answer d.head) ds))
-  pub general : IsIndexOf tables.general.rows.items (place_among (map (λ d. general_key d.head) ds))
-  pub error : tables.error ≡ position (λ d. is_command 0 Error None d.head) ds
+-- those of each definition
+abbrev pub AreSlotsOfEach : List (KeyMap Slot) → List Definition → Type 0
+AreSlotsOfEach all ds = (length all ≡ length ds)
+    × ((i : ℕ) (slots : KeyMap Slot) (d : Definition) → slice_get all i ≡ Some slots → slice_get ds i ≡ Some d → AreSlots slots d)

@@ -1,7 +1,6 @@
 pub use Rattle.dia_book.specs.Keys
 pub use Rattle.dia_book.specs.Limits
 pub use Rattle.dia_book.specs.Dictionary
-pub mod KeyTables
 pub mod Words
 pub mod PlainMeaning
 pub mod Resolution
@@ -9,4 +8,5 @@ pub mod SourceChecks
 pub mod Base
 pub mod BaseTables
 pub mod Selectors
+pub mod SameSelectors
 pub mod Indexed

@@ -322,5 +322,5 @@ first_wrong s = slice_get (all_wrong s) 0
 
 -- the fault that is reported is the first
 abbrev pub IsRecordedOf : PlainSource → DictFault → Type 0
-IsRecordedOf s (fault.Occurs kind name slot) = first_wrong s ≡ Some (wrong kind (string_bytes name) (string_bytes slot))
+IsRecordedOf s (fault.Stands kind name slot) = first_wrong s ≡ Some (wrong kind (string_bytes name) (string_bytes slot))
 IsRecordedOf s fault.NoMemory = ⊤

@@ -1,7 +1,6 @@
 -- What commands are looked up by: the messages that they are for.
-use Rattle.std.specs.Prelude.{ℕ, ◌+◌, ◌*◌, true, false, Option, Some, None, if◌then◌else◌}
-use Rattle.dia_wire.specs.declared.Key.{Key}
-use Rattle.dia_book.specs.Dictionary.{same_class}
+use Rattle.std.specs.Prelude.{ℕ, ◌+◌, ◌*◌, ◌++◌, Bool, true, false, List, [], Option, unwrap_or, is_some}
+use Rattle.std.specs.Hash as fed
 use Rattle.dia_book.specs.declared.Class.{Class}
 use Rattle.dia_book.specs.declared.Class.TheVariants as classes
 use Rattle.dia_book.specs.declared.DefHead.{DefHead}
@@ -30,27 +29,12 @@ abbrev pub service_of : DefHead → ℕ
 service_of (head.Command code class app p) = service code class
 service_of head = 0
 
--- ---- keys, for look-ups
+-- a command for one application
+abbrev pub is_for_app : DefHead → Bool
+is_for_app (head.Command code class app p) = is_some app
+is_for_app head = false
 
--- the key of a command of this class that is for an application
-abbrev pub app_key : Class → DefHead → Option Key
-app_key class (head.Command code own (Some app) p) = if same_class class own then Some (record { code = code; vendor = app }) else None
-app_key class (head.Command code own None p) = None
-app_key class (head.Group key) = None
-app_key class (head.Error p) = None
-
-abbrev pub class_number : Class → ℕ
-class_number classes.Request = 1
-class_number classes.Answer = 0
-class_number classes.Error = 2
-
--- the key for messages of a code and a class, of whatever application
-abbrev pub general_selector : ℕ → Class → Key
-general_selector code class = record { code = code; vendor = class_number class }
-
--- the key of a command that is for all applications
-abbrev pub general_key : DefHead → Option Key
-general_key (head.Command code class (Some app) p) = None
-general_key (head.Command code class None p) = Some (general_selector code class)
-general_key (head.Group key) = None
-general_key (head.Error p) = None
+-- what is hashed of a selector
+abbrev pub hashed : Selector → List (List ℕ)
+hashed (selectors.Command code request app) = fed.u32 code ++ fed.u32 (unwrap_or app 0)
+hashed selectors.Error = []

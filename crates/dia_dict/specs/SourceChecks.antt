@@ -74,5 +74,5 @@ IsRefused ws (refusal.Occurs t) = slice_get ws 0 ≡ Some (recorded t)
 IsRefused ws refusal.NoMemory = ⊤
 
 abbrev pub wrong_of : DictFault → Option Wrong
-wrong_of (fault.Occurs kind name slot) = Some (wrong kind (string_bytes name) (string_bytes slot))
+wrong_of (fault.Stands kind name slot) = Some (wrong kind (string_bytes name) (string_bytes slot))
 wrong_of fault.NoMemory = None

@@ -37,6 +37,6 @@ pub fn base_book(alloc: Global) -> Result<PlainBook, AllocError>
     match resolve(alloc, building::source(alloc)?) {
         Ok(book) => Ok(book),
         Err(DictFault::NoMemory) => Err(AllocError),
-        Err(DictFault::Occurs { .. }) => unreachable!(),
+        Err(DictFault::Stands { .. }) => unreachable!(),
     }
 }

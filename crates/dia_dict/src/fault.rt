@@ -60,8 +60,8 @@ pub enum DictFault {
     /// The first fault, by kind and then in the order declarations, groups, commands, each in the order of the text.
     /// `name` names a definition or an AVP. `slot` names the AVP of a rule, with `AVP` for the wildcard. Either is empty
     /// where there is none.
-    #[error(fmt = report_occurs)]
-    Occurs {
+    #[error(fmt = report_fault)]
+    Stands {
         kind: DictKind,
         name: String,
         slot: String,
@@ -72,7 +72,7 @@ pub enum DictFault {
 }
 
 /// Writes what is wrong, and the names that there are.
-fn report_occurs<W: fmt::Write>(
+fn report_fault<W: fmt::Write>(
     kind: &DictKind,
     name: &String,
     slot: &String,

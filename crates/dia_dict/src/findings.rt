@@ -125,7 +125,7 @@ impl<'a> Recorded<'a> {
     {
         let name = String::from_str(alloc, self.name)?;
         let slot = String::from_str(alloc, self.slot)?;
-        Ok(DictFault::Occurs {
+        Ok(DictFault::Stands {
             kind: self.kind,
             name,
             slot,

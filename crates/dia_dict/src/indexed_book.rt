@@ -1,40 +1,42 @@
-ghost use Rattle.std.specs.Prelude.{◌≡◌, ◌<◌, ◌==◌, ◌++◌, ℕ, IfOk, IsTrue, map, position};
+ghost use Rattle.std.specs.Prelude.{◌≡◌, ◌==◌, ◌++◌, ℕ, IfOk, None, Some, length, map};
 ghost use Rattle.std.specs.List.{list_any};
-ghost use Rattle.std.specs.List.Sorted.{IsNonDecreasing};
 ghost use Rattle.std.specs.Option.{option_or};
-ghost use Rattle.dia_book.specs.Dictionary.{is_command};
 ghost use Rattle.dia_book.specs.Opened.{opened};
-ghost use Rattle.dia_dict.specs.Indexed.{AreCommandTables, AreSlotTables, row_keys};
-ghost use Rattle.dia_dict.specs.KeyTables.{IsIndexOf, place_among};
-ghost use Rattle.dia_dict.specs.Selectors.{service_of};
+ghost use Rattle.dia_dict.specs.Indexed.{AreEntries, AreCommands, AreSlotsOfEach, command_number};
+ghost use Rattle.dia_dict.specs.Selectors.{is_for_app, service_of};
 
-mod commands;
-mod tables;
+mod building;
 
-use crate::indexed_book::commands::CommandTables;
-use crate::key_table::KeyTable;
+use crate::hashing::Hashing;
+use crate::key_map::KeyMap;
 use crate::plain_book::PlainBook;
-use crate::selectors::service;
+use crate::selectors::{Selector, service};
 use dia_book::{Book, Class, DefId, Definition, Entry, MRule, Slot};
 use dia_data::Format;
 use dia_wire::Key;
+use indexmap::{IndexMap, IndexSet};
 use std::alloc::{AllocError, Global};
 
-/// A dictionary with tables for its look-ups. A look-up of a key takes log n steps at most among n keys, whichever they are.
+/// A dictionary with maps for its look-ups, each in the dictionary's order.
 pub struct IndexedBook {
     book: PlainBook,
-    avps: KeyTable,
-    slots: Vec<KeyTable>,
-    commands: CommandTables,
-    /// The numbers of the messages that the commands are for, whatever their application, in order.
-    services: Vec<u64>,
-    ghost placed: { IsIndexOf avps.rows.items (place_among (row_keys book.entries.rows.items)) },
-    ghost slotted: { ∥ AreSlotTables slots.items
-        (book.entries.groups.items ++ book.commands.items) ∥₁ },
-    ghost selected: { ∥ AreCommandTables commands book.commands.items ∥₁ },
-    ghost sorted: { IsNonDecreasing services.items },
-    ghost served: { (n : ℕ) → list_any (λ m. n == m) services.items
+    entries: KeyMap<Entry>,
+    /// The definitions of commands.
+    commands: IndexMap<Selector, DefId, Hashing>,
+    /// Whether some command is for an application.
+    for_apps: bool,
+    /// The numbers of the messages that the commands are for, whatever their application.
+    services: IndexSet<u64, Hashing>,
+    /// Of each definition the slots of its rules.
+    slots: Vec<KeyMap<Slot>>,
+    ghost known: { AreEntries entries book.entries.rows.items },
+    ghost selected: { AreCommands ⟦<Selector as PartialEq>⟧.eq commands
+        (length book.entries.groups.items) book.commands.items },
+    ghost applied: { for_apps ≡ list_any (λ d. is_for_app d.head) book.commands.items },
+    ghost served: { (n : ℕ) → list_any (λ m. n == m) services.keys
         ≡ list_any (λ m. n == m) (map (λ d. service_of d.head) book.commands.items) },
+    ghost slotted: { ∥ AreSlotsOfEach slots.items
+        (book.entries.groups.items ++ book.commands.items) ∥₁ },
 }
 
 // Written out: for a derived `Drop`, each crate that drops this type proves the drops of all its parts again.
@@ -42,17 +44,17 @@ impl Drop for IndexedBook {
     fn drop(self) {
         let IndexedBook {
             book: _,
-            avps: _,
-            slots: _,
+            entries: _,
             commands: _,
+            for_apps: _,
             services: _,
+            slots: _,
         } = self;
     }
 }
 
 impl IndexedBook {
-    /// A copy of the dictionary with its tables: n keys or rules take n log n steps. The error comes only where memory was
-    /// refused.
+    /// A copy of the dictionary with its maps. The error comes only where memory was refused.
     pub fn new(alloc: Global, book: &PlainBook) -> Result<IndexedBook, AllocError>
         ensures { IfOk result (λ indexed. ⟦<IndexedBook as Book>⟧.meaning indexed
             ≡ ⟦<PlainBook as Book>⟧.meaning book.now) }
@@ -60,44 +62,45 @@ impl IndexedBook {
         Self::from_plain(alloc, book.clone()?)
     }
 
-    /// The dictionary itself with its tables, without a copy of it. The error comes only where memory was refused.
+    /// The dictionary itself with its maps, without a copy of it. The error comes only where memory was refused.
     pub fn from_plain(alloc: Global, book: PlainBook) -> Result<IndexedBook, AllocError>
         ensures { IfOk result (λ indexed. ⟦<IndexedBook as Book>⟧.meaning indexed
             ≡ ⟦<PlainBook as Book>⟧.meaning book) }
     {
-        let avps = tables::avp_table(alloc, &book.entries.rows)?;
-        let slots = tables::slot_tables(alloc, &book.entries.groups, &book.commands)?;
-        let commands = CommandTables::new(alloc, &book.commands)?;
-        let services = commands::services_of(alloc, &book.commands)?;
+        let entries = building::entries_of(alloc, &book.entries.rows)?;
+        let commands = building::commands_of(alloc, book.entries.groups.len(), &book.commands)?;
+        let for_apps = building::are_for_apps(&book.commands);
+        let services = building::services_of(alloc, &book.commands)?;
+        let slots = building::all_slots(alloc, &book.entries.groups, &book.commands)?;
         Ok(IndexedBook {
             book,
-            avps,
-            slots,
+            entries,
             commands,
+            for_apps,
             services,
+            slots,
         })
     }
 
-    /// The place of the command for this application, else of the one without.
+    /// The command of this code and class for an application. It need not be looked up if no command is for one.
     #[inline(always)]
-    fn place_of_selected(&self, code: u32, class: Class, app: u32) -> Option<usize>
-        ensures { result ≡ option_or
-            (position (λ d. is_command code class (Some app) d.head) self.now.book.commands.items)
-            (position (λ d. is_command code class None d.head) self.now.book.commands.items) }
+    fn command_for(&self, code: u32, class: Class, app: u32) -> Option<DefId>
+        ensures { option_or result (command_number self.now.book code class None)
+            ≡ option_or (command_number self.now.book code class (Some app)) (command_number self.now.book code class None) }
     {
-        match self.place_of_command(code, class, Some(app)) {
-            Some(place) => Some(place),
-            None => self.place_of_command(code, class, None),
+        if self.for_apps {
+            self.command(code, class, Some(app))
+        } else {
+            None
         }
     }
 
-    /// The place of the command of this code and class, and of this application or of none.
+    /// The command of this code and class, and of this application or of none.
     #[inline(always)]
-    fn place_of_command(&self, code: u32, class: Class, app: Option<u32>) -> Option<usize>
-        ensures { result ≡ position
-            (λ d. is_command code class app d.head) self.now.book.commands.items }
+    fn command(&self, code: u32, class: Class, app: Option<u32>) -> Option<DefId>
+        ensures { result ≡ command_number self.now.book code class app }
     {
-        self.commands.place(code, class, app)
+        self.commands.get(&Selector::new(code, class, app)).copied()
     }
 }
 
@@ -108,8 +111,7 @@ impl Book for IndexedBook {
 
     #[inline(always)]
     fn avp(&self, key: Key) -> Option<Entry> {
-        let place = self.avps.place(key)?;
-        Some(Entry::new(place))
+        self.entries.get(key)
     }
 
     fn entry_key(&self, entry: Entry) -> Key {
@@ -134,12 +136,14 @@ impl Book for IndexedBook {
 
     #[inline(always)]
     fn select(&self, code: u32, class: Class, app: u32) -> Option<DefId> {
-        let place = self.place_of_selected(code, class, app)?;
-        Some(self.book.command_at(place))
+        match self.command_for(code, class, app) {
+            Some(def) => Some(def),
+            None => self.command(code, class, None),
+        }
     }
 
     fn has_command(&self, code: u32, class: Class) -> bool {
-        self.services.binary_search(&service(code, class)).is_ok()
+        self.services.contains(&service(code, class))
     }
 
     fn def(&self, def: DefId) -> &Definition {
@@ -148,11 +152,7 @@ impl Book for IndexedBook {
 
     #[inline(always)]
     fn slot(&self, def: DefId, key: Key) -> Slot {
-        let definition = self.book.def(def);
-        match self.slots[def.index()].place(key) {
-            Some(place) => definition.slot_at(place),
-            None => Slot::Unlisted,
-        }
+        self.slots[def.index()].get(key).unwrap_or(Slot::Unlisted)
     }
 
     fn entries(&self) -> usize {

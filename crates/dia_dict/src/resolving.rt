@@ -32,7 +32,7 @@ use std::alloc::{AllocError, Global};
 /// The dictionary that a source names.
 ///
 /// Entries are in the order of the declarations, then of the groups without one; such a group has the M rule `Any`.
-/// `Occurs` has the first fault: the first in the order of `DictKind`, and among faults of one kind the first in the
+/// `Stands` has the first fault: the first in the order of `DictKind`, and among faults of one kind the first in the
 /// order declarations, groups, commands, each in the order of the text. Of two items that are alike the later one has the
 /// fault. `NoMemory` comes only where memory was refused. The source is consumed.
 pub fn resolve(alloc: Global, source: Source) -> Result<PlainBook, DictFault>

@@ -1,11 +1,12 @@
-//! What distinguishes commands, and the keys by which they are looked up.
+//! What distinguishes commands.
 ghost use Rattle.std.specs.Prelude.{◌≡◌};
-ghost use Rattle.dia_dict.specs.Selectors.{app_key, general_key, general_selector, service, service_of};
+ghost use Rattle.dia_dict.specs.Selectors.{is_for_app, service, service_of};
 
-use dia_book::{Class, DefHead, Key};
+use dia_book::{Class, DefHead};
+use std::hash::{Hash, Hasher};
 
 /// Which messages a command is for.
-#[derive(Clone, Copy, PartialEq, Eq, Hash)]
+#[derive(Clone, Copy, PartialEq, Eq)]
 pub(crate) enum Selector {
     /// Requests or answers of a command code, for an application or for all that no other command names.
     Command {
@@ -19,7 +20,6 @@ pub(crate) enum Selector {
 
 impl Selector {
     ghost use Rattle.std.specs.Prelude.{◌≡◌};
-    ghost use Rattle.dia_book.specs.Dictionary.{IsCommandHead};
     ghost use Rattle.dia_dict.specs.Selectors.{selector, selector_of};
 
     /// The selector of messages of a code and a class, for an application or for all that no other command names.
@@ -43,19 +43,45 @@ impl Selector {
 
     /// The selector of a command.
     pub fn of(head: DefHead) -> Self
-        requires { IsCommandHead head }
         ensures { result ≡ selector_of head }
     {
         match head {
-            DefHead::Group(_) => unreachable!(),
             DefHead::Command {
                 code,
                 class,
                 app,
                 ..
             } => Selector::new(code, class, app),
-            DefHead::Error { .. } => Selector::Error,
+            DefHead::Group(_) | DefHead::Error { .. } => Selector::Error,
         }
+    }
+}
+
+/// Only the code and the application are hashed: at most four selectors have the same.
+impl Hash for Selector {
+    ghost use Rattle.std.proofs.Common.{ap};
+    ghost use Rattle.dia_dict.specs.Selectors.{hashed};
+    ghost use Rattle.dia_dict.specs.SameSelectors.{same_selector-true};
+
+    ghost hash_input = { hashed };
+
+    ghost respects_eq = { λ a b same. ap hashed (same_selector-true a b same) };
+
+    fn hash<H: Hasher>(&self, state: &mut H) {
+        if let Selector::Command { code, app, .. } = self {
+            state.write_u32(*code);
+            state.write_u32(app.unwrap_or(0));
+        }
+    }
+}
+
+/// Whether a command is for an application.
+pub(crate) fn is_for_app(head: DefHead) -> bool
+    ensures { result ≡ is_for_app head }
+{
+    match head {
+        DefHead::Command { app, .. } => app.is_some(),
+        DefHead::Group(_) | DefHead::Error { .. } => false,
     }
 }
 
@@ -78,60 +104,4 @@ pub(crate) fn service_of(head: DefHead) -> u64
         DefHead::Command { code, class, .. } => service(code, class),
         DefHead::Group(_) | DefHead::Error { .. } => 0,
     }
-}
-
-/// The key of a command of this class that is for an application.
-pub(crate) fn app_key(class: Class, head: DefHead) -> Option<Key>
-    ensures { result ≡ app_key class head }
-{
-    match head {
-        DefHead::Group(_) => None,
-        DefHead::Command {
-            code,
-            class: own,
-            app,
-            ..
-        } => match app {
-            Some(app) => {
-                if class == own {
-                    Some(Key { code, vendor: app })
-                } else {
-                    None
-                }
-            }
-            None => None,
-        },
-        DefHead::Error { .. } => None,
-    }
-}
-
-/// The key of a command that is for all applications.
-pub(crate) fn general_key(head: DefHead) -> Option<Key>
-    ensures { result ≡ general_key head }
-{
-    match head {
-        DefHead::Group(_) => None,
-        DefHead::Command {
-            code,
-            class,
-            app,
-            ..
-        } => match app {
-            Some(_) => None,
-            None => Some(general_selector(code, class)),
-        },
-        DefHead::Error { .. } => None,
-    }
-}
-
-/// The key for messages of a code and a class, of whatever application.
-pub(crate) fn general_selector(code: u32, class: Class) -> Key
-    ensures { result ≡ general_selector code class }
-{
-    let vendor = match class {
-        Class::Request => 1,
-        Class::Answer => 0,
-        Class::Error => 2,
-    };
-    Key { code, vendor }
 }

@@ -20,7 +20,7 @@ fn read(rt: &(impl AllocGlobal + Abort), text: &str) -> Result<PlainBook, DictFa
     resolve(rt.alloc(), source)
 }
 
-/// The book of a text, with its tables.
+/// The book of a text, with its maps.
 fn indexed_of(rt: &(impl AllocGlobal + Abort), text: &str) -> Box<IndexedBook> {
     let plain = read(rt, text).expect(rt, text);
     let indexed = IndexedBook::from_plain(rt.alloc(), plain).expect(rt, "memory");

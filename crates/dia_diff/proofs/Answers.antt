@@ -13,7 +13,8 @@ use Rattle.dia_report.specs.declared.BadInput.{BadInput}
 use Rattle.dia_report.specs.declared.reporting.Answered.{Answered}
 use Rattle.dia_report.specs.Refusals.{RecordsOf, dictionary_line}
 use Rattle.dia_run.specs.Texts.{IsDictionaryText, IsNoDictionaryText}
-use Rattle.dia_diff.specs.Outcome.{AreLines, IsDiffOutcome, IsDiffText, answered, no_first, no_second, refused_text, same_text}
+use Rattle.dia_refused_json.specs.Recording.{refused_text}
+use Rattle.dia_diff.specs.Outcome.{AreLines, IsDiffOutcome, IsDiffText, answered, no_first, no_second, same_text}
 
 module _ {E : Type 0} (sends : Sends) (unknown : Unknown) (json : Bool) (inputs : Inputs) where
   pub bad_first : (why : BadInput) (r : Result Answered E) → RecordsOf (λ recorded. (w : List ℕ) × IsNoDictionaryText inputs.first w × (recorded ≡ dictionary_line 1 w)) (Bad why)

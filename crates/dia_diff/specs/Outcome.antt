@@ -2,7 +2,6 @@
 use Rattle.std.specs.Prelude.{◌≡◌, ℕ, Bool, true, false, List, codes}
 use Rattle.dia_io.specs.declared.Exit.{Exit}
 use Rattle.dia_io.specs.declared.Exit.TheVariants as exits
-use Rattle.dia_io.specs.declared.Input.{Input}
 use Rattle.dia_io.specs.declared.Inputs.{Inputs}
 use Rattle.dia_dict.specs.Dictionary.{Dictionary}
 use Rattle.dia_terms.specs.declared.Sends.{Sends}
@@ -11,7 +10,7 @@ use Rattle.dia_report.specs.declared.bad_input.BadInput.{BadInput}
 use Rattle.dia_report.specs.Refusals.{bad_input_text}
 use Rattle.dia_run.specs.RefusedDictionaries.{RefusesFirst, RefusesSecond}
 use Rattle.dia_run.specs.Texts.{line, IsDictionaryText}
-use Rattle.dia_refused_json.specs.Refusals.{bad_input_json}
+use Rattle.dia_refused_json.specs.Recording.{refused_text}
 use Rattle.dia_differences.specs.declared.lines.Line.{Line}
 use Rattle.dia_differences.specs.Same.{IsSameDictionary}
 use Rattle.dia_differences.specs.Lines.{AreDifferences}
@@ -23,11 +22,6 @@ use Rattle.dia_diff.specs.MarkedLines.{AreMarkedLines}
 abbrev pub same_text : Bool → List ℕ
 same_text true = line (codes "{\"verdict\":\"same\"}")
 same_text false = line (codes "same")
-
--- the line of a dictionary that is refused
-abbrev pub refused_text : Bool → Input → BadInput → List ℕ
-refused_text true input bad = bad_input_json input bad
-refused_text false input bad = line (bad_input_text bad)
 
 -- a line for each difference, in their order, with its marks
 abbrev pub AreLines : Dictionary → Dictionary → Sends → Unknown → Bool → List ℕ → Type 0

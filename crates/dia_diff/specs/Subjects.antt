@@ -21,6 +21,7 @@ subjects (kinds.AvpField i j field) = Avp sides.First i ∷ Avp sides.Second j �
 subjects (kinds.Command side i) = Command side i ∷ []
 subjects (kinds.HeadField i j field) = Command sides.First i ∷ Command sides.Second j ∷ FieldOfHead sides.First i field ∷ FieldOfHead sides.Second j field ∷ []
 subjects (kinds.Rule side place) = Rule side place ∷ Rules side place.of ∷ []
+subjects (kinds.NewRule own place) = Rule sides.Second place ∷ Rules sides.Second place.of ∷ []
 subjects (kinds.RuleChange p q) = Rule sides.First p ∷ Rules sides.First p.of ∷ Rule sides.Second q ∷ Rules sides.Second q.of ∷ []
 
 -- ---- when two are the same

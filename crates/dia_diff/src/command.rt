@@ -8,16 +8,16 @@ ghost use Rattle.dia_run.specs.Texts.{IsDictionaryText};
 ghost use Rattle.dia_differences.specs.Lines.{Adds, AreDifferences};
 ghost use Rattle.dia_differences.specs.Partners.{matches_of, paired};
 ghost use Rattle.dia_diff_text.specs.Lines.{AreTexts};
-ghost use Rattle.dia_diff.specs.Outcome.{AreLines, IsDiffOutcome, IsDiffText, refused_text, same_text};
+ghost use Rattle.dia_diff.specs.Outcome.{AreLines, IsDiffOutcome, IsDiffText, same_text};
 
 use crate::marked_lines::marked_lines;
 use crate::notes::counts_of;
 use dia_book::Book;
 use dia_diff_text::push;
 use dia_differences::{Line, Partners, lines_of};
-use dia_io::{Exit, Input, Inputs, RunFault, Sink, put_all};
-use dia_refused_json::bad_input_line;
-use dia_report::{Answered, BadInput, Refused, Report, Reported};
+use dia_io::{Exit, Inputs, RunFault, Sink, put_all};
+use dia_refused_json::refuse_as;
+use dia_report::{Answered, Refused, Report, Reported};
 use dia_run::read_dictionary;
 use dia_terms::{Sends, Unknown};
 use std::alloc::{AllocError, Global};
@@ -73,7 +73,7 @@ fn text_for(
 {
     match read_dictionary(alloc, 1, &inputs.first) {
         Ok(first) => text_after(alloc, asked, &first.book, inputs, notes),
-        Err(Refused::Bad(bad)) => refuse(alloc, asked.json, &inputs.first, bad),
+        Err(Refused::Bad(bad)) => refuse_as(alloc, asked.json, &inputs.first, bad),
         Err(Refused::NoMemory) => Err(AllocError),
     }
 }
@@ -92,7 +92,7 @@ fn text_after<A: Book>(
 {
     match read_dictionary(alloc, 2, &inputs.second) {
         Ok(second) => text_by(alloc, asked, a, &second.book, inputs, notes),
-        Err(Refused::Bad(bad)) => refuse(alloc, asked.json, &inputs.second, bad),
+        Err(Refused::Bad(bad)) => refuse_as(alloc, asked.json, &inputs.second, bad),
         Err(Refused::NoMemory) => Err(AllocError),
     }
 }
@@ -219,31 +219,5 @@ fn same_line(json: bool) -> &'static str
         "{\"verdict\":\"same\"}\n"
     } else {
         "same\n"
-    }
-}
-
-/// The answer where a dictionary is refused.
-fn refuse(alloc: Global, json: bool, input: &Input, bad: BadInput) -> Result<Answered, AllocError>
-    ensures text { IfOk result (λ a. string_bytes a.text ≡ refused_text json input.now bad) }
-    ensures exit { IfOk result (λ a. a.exit ≡ Exit.Bad) }
-{
-    let text = refused_line(alloc, json, input, &bad)?;
-    let exit = Exit::Bad;
-    let report = Report::Refused(bad);
-    Ok(Answered { text, exit, report })
-}
-
-fn refused_line(
-    alloc: Global,
-    json: bool,
-    input: &Input,
-    bad: &BadInput,
-) -> Result<String, AllocError>
-    ensures { IfOk result (λ text. string_bytes text ≡ refused_text json input.now bad.now) }
-{
-    if json {
-        bad_input_line(alloc, input, bad)
-    } else {
-        format!(in alloc; "{bad}\n")
     }
 }

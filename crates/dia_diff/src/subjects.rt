@@ -49,6 +49,13 @@ pub(crate) fn subjects_of(alloc: Global, what: What) -> Result<Vec<Subject>, All
             alloc,
             &[Subject::Rule(side, place), Subject::Rules(side, place.of)],
         ),
+        What::NewRule { place, .. } => Vec::from_slice(
+            alloc,
+            &[
+                Subject::Rule(Side::Second, place),
+                Subject::Rules(Side::Second, place.of),
+            ],
+        ),
         What::RuleChange { first, second } => of_rule_change(alloc, first, second),
     }
 }

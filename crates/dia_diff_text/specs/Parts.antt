@@ -22,6 +22,7 @@ subject_of (kinds.AvpField i j field) = (sides.First, owners.Avp i)
 subject_of (kinds.Command side i) = (side, owners.Command i)
 subject_of (kinds.HeadField i j field) = (sides.First, owners.Command i)
 subject_of (kinds.Rule side place) = (side, place.of)
+subject_of (kinds.NewRule own place) = (sides.First, own)
 subject_of (kinds.RuleChange first second) = (sides.First, first.of)
 
 abbrev pub is_command : Owner → Bool
@@ -56,6 +57,7 @@ field_of (kinds.AvpField i j field) = Some (avp_word field)
 field_of (kinds.Command side i) = None
 field_of (kinds.HeadField i j field) = Some (head_word field)
 field_of (kinds.Rule side place) = Some rule_field
+field_of (kinds.NewRule own place) = Some rule_field
 field_of (kinds.RuleChange first second) = Some rule_field
 
 -- ---- the words of one dictionary
@@ -73,6 +75,7 @@ is_without (kinds.AvpField i j field) side = false
 is_without (kinds.Command own i) side = not (is_same_side own side)
 is_without (kinds.HeadField i j field) side = false
 is_without (kinds.Rule own place) side = not (is_same_side own side)
+is_without (kinds.NewRule own place) side = not (is_same_side sides.Second side)
 is_without (kinds.RuleChange first second) side = false
 
 abbrev pub pick : {X : Type 0} → Side → X → X → X
@@ -91,6 +94,7 @@ IsWords d side (kinds.AvpField i j field) text = IsAvpAt d (pick side i j) (Some
 IsWords d side (kinds.Command own i) text = text ≡ command_at d i None
 IsWords d side (kinds.HeadField i j field) text = text ≡ command_at d (pick side i j) (Some field)
 IsWords d side (kinds.Rule own place) text = text ≡ place_rule_words d place
+IsWords d side (kinds.NewRule own place) text = text ≡ place_rule_words d place
 IsWords d side (kinds.RuleChange first second) text = text ≡ place_rule_words d (pick side first second)
 
 -- the words of the dictionary of this side, if it has what differs

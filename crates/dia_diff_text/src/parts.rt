@@ -67,6 +67,7 @@ fn subject_of(what: What) -> (Side, Owner)
         What::Command(side, index) => (side, Owner::Command(index)),
         What::HeadField { first, .. } => (Side::First, Owner::Command(first)),
         What::Rule(side, place) => (side, place.of),
+        What::NewRule { own, .. } => (Side::First, own),
         What::RuleChange { first, .. } => (Side::First, first.of),
     }
 }
@@ -97,7 +98,7 @@ fn field_of(what: What) -> Option<&'static str>
         What::Avp(..) | What::Command(..) => None,
         What::AvpField { field, .. } => Some(avp_word(field)),
         What::HeadField { field, .. } => Some(head_word(field)),
-        What::Rule(..) | What::RuleChange { .. } => Some(RULE),
+        What::Rule(..) | What::NewRule { .. } | What::RuleChange { .. } => Some(RULE),
     }
 }
 

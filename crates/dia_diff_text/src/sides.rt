@@ -42,6 +42,7 @@ fn is_without(what: What, side: Side) -> bool
 {
     match what {
         What::Avp(own, _) | What::Command(own, _) | What::Rule(own, _) => own != side,
+        What::NewRule { .. } => Side::Second != side,
         What::AvpField { .. } | What::HeadField { .. } | What::RuleChange { .. } => false,
     }
 }
@@ -62,7 +63,7 @@ fn push_words<D: Book>(out: &mut String, book: &D, side: Side, what: What) -> Re
             second,
             field,
         } => push_command(out, book, pick(side, first, second), Some(field)),
-        What::Rule(_, place) => push_rule(out, book, place),
+        What::Rule(_, place) | What::NewRule { place, .. } => push_rule(out, book, place),
         What::RuleChange { first, second } => match side {
             Side::First => push_rule(out, book, first),
             Side::Second => push_rule(out, book, second),

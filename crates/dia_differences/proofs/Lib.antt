@@ -20,3 +20,5 @@ mod Fields
 mod RulePlaces
 mod RuleLines
 mod SameFields
+mod SameLevels
+mod SameMessages

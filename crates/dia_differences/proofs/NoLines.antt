@@ -46,8 +46,8 @@ rule_lines a b m own other =
     empty_for (RuleLines a b m own other) (OwnAre × OthersAre) (HaveSameRules a b m own other) (λ h. record { rules = h.0; others = h.1 }) (λ h. (h.rules, h.others))
     (empty_then (OwnRules a b m.avps own other) (OtherRules a b m.avps_back own other) OwnAre OthersAre
     (empty_rules (rules_of a own) (λ i r. RuleLine own other i r (rules_of b other) (rule_place a b m.avps other r)) (λ i r. HasSameRule a b m.avps other i r) (rule_line a b m.avps own other))
-    (empty_rules (rules_of b other) (λ j r ws. Unless (IsSome (rule_place b a m.avps_back own r)) (kinds.Rule sides.Second (place_of other j)) ws) (λ j r. IsSome (rule_place b a m.avps_back own r))
-    (λ j r. empty_unless (IsSome (rule_place b a m.avps_back own r)) (kinds.Rule sides.Second (place_of other j)))))
+    (empty_rules (rules_of b other) (λ j r ws. Unless (IsSome (rule_place b a m.avps_back own r)) (kinds.NewRule own (place_of other j)) ws) (λ j r. IsSome (rule_place b a m.avps_back own r))
+    (λ j r. empty_unless (IsSome (rule_place b a m.avps_back own r)) (kinds.NewRule own (place_of other j)))))
 
 -- ---- AVPs and commands
 

@@ -54,8 +54,8 @@ one_rule_lines : (a b : Dictionary) (m : Matches) (own other : Owner) → IsOne 
 one_rule_lines a b m own other =
     one_then (OwnRules a b m.avps own other) (OtherRules a b m.avps_back own other)
     (one_rules (rules_of a own) (λ i r. RuleLine own other i r (rules_of b other) (rule_place a b m.avps other r)) (λ i r. one_rule_line own other i r (rules_of b other) (rule_place a b m.avps other r)))
-    (one_rules (rules_of b other) (λ j r ws. Unless (IsSome (rule_place b a m.avps_back own r)) (kinds.Rule sides.Second (place_of other j)) ws)
-    (λ j r. one_unless (IsSome (rule_place b a m.avps_back own r)) (kinds.Rule sides.Second (place_of other j))))
+    (one_rules (rules_of b other) (λ j r ws. Unless (IsSome (rule_place b a m.avps_back own r)) (kinds.NewRule own (place_of other j)) ws)
+    (λ j r. one_unless (IsSome (rule_place b a m.avps_back own r)) (kinds.NewRule own (place_of other j))))
 
 one_alone : (w : What) (side : Side) (own : Owner) (count : ℕ) → IsOne (Then (Only w) (AllRules side own count))
 one_alone w side own count =

@@ -36,9 +36,9 @@ rule_found own other i j r others slice o same xs ys some read iff is =
 
 -- a rule of B that A may have no place for
 pub other_rule : (a b : Dictionary) (back : List (Option ℕ)) (own other : Owner) (j : ℕ) (r : DRule) (o : Option ℕ) (xs ys : List Line) → slice_get (rules_of b other) j ≡ Some r → o ≡ rule_place b a back own r
-    → ys ≡ cond (is_some o) xs (xs ++ unmarked (kinds.Rule sides.Second (place_of other j)) ∷ []) → Adds xs ys (OtherRuleAt a b back own other j)
+    → ys ≡ cond (is_some o) xs (xs ++ unmarked (kinds.NewRule own (place_of other j)) ∷ []) → Adds xs ys (OtherRuleAt a b back own other j)
 other_rule a b back own other j r o xs ys at place is =
-    let w = kinds.Rule sides.Second (place_of other j) in
+    let w = kinds.NewRule own (place_of other j) in
     one_rule (rules_of b other) (λ s. Unless (IsSome (rule_place b a back own s)) w) j r xs ys at
     (adds_by (λ (p : Option ℕ). Unless (IsSome p) w) o (rule_place b a back own r) xs ys place (adds_unless (IsSome o) w (is_some o) xs ys (λ h. h, λ h. h) is))
 

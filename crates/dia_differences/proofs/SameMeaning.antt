@@ -26,7 +26,7 @@ pub record There {X : Type 0} (P : X → Type 0) (xs : List X) : Type 0 where
   pub at : slice_get xs place ≡ Some item
   pub is : P item
 
-from_any : {X : Type 0} (P : X → Type 0) (xs : List X) → Any P xs → There P xs
+pub from_any : {X : Type 0} (P : X → Type 0) (xs : List X) → Any P xs → There P xs
 from_any P xs (k, x, within, here, p) = record { place = k; item = x; at = slice_get-get_or xs k x within ∙ ap (λ y. Some y) here; is = p }
 
 to_any : {X : Type 0} (P : X → Type 0) (xs : List X) → There P xs → Any P xs

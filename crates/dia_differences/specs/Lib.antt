@@ -2,6 +2,7 @@ pub mod Sides
 pub mod Owners
 pub mod Counts
 pub mod Same
+pub mod Messages
 pub mod Headers
 pub mod Partners
 pub mod Matching

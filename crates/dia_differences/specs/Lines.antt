@@ -59,7 +59,7 @@ OwnRules a b pairs own other = Each (length (rules_of a own)) (OwnRuleAt a b pai
 
 -- a rule of B: added, if A has none that corresponds
 abbrev pub OtherRuleAt : Dictionary → Dictionary → List (Option ℕ) → Owner → Owner → ℕ → List What → Type 0
-OtherRuleAt a b back own other j ws = IfSome (slice_get (rules_of b other) j) (λ rule. Unless (IsSome (rule_place b a back own rule)) (kinds.Rule sides.Second (place_of other j)) ws)
+OtherRuleAt a b back own other j ws = IfSome (slice_get (rules_of b other) j) (λ rule. Unless (IsSome (rule_place b a back own rule)) (kinds.NewRule own (place_of other j)) ws)
 
 abbrev pub OtherRules : Dictionary → Dictionary → List (Option ℕ) → Owner → Owner → List What → Type 0
 OtherRules a b back own other = Each (length (rules_of b other)) (OtherRuleAt a b back own other)

@@ -50,8 +50,13 @@ pub enum What {
         second: usize,
         field: HeadField,
     },
-    /// The definition of this side alone has the rule.
+    /// This side alone has the rule: in a definition that its dictionary alone has, or the first in one of both.
     Rule(Side, RulePlace),
+    /// The second side alone has the rule in a definition of both, of which `own` is the first's.
+    NewRule {
+        own: Owner,
+        place: RulePlace,
+    },
     /// The counts, the brackets, or the place among the fixed rules.
     RuleChange {
         first: RulePlace,

@@ -116,7 +116,7 @@ fn push_other_rules<A: Book, B: Book>(
     let rules = other.rules(b);
     for rule in 0..rules.len() {
         let second = RulePlace { of: other, rule };
-        push_other_rule(lines, rule_for(b, rules[rule], a, own, pairs), second)?;
+        push_other_rule(lines, rule_for(b, rules[rule], a, own, pairs), own, second)?;
     }
     Ok(())
 }
@@ -125,12 +125,13 @@ fn push_other_rules<A: Book, B: Book>(
 fn push_other_rule(
     lines: &mut Vec<Line>,
     place: Option<usize>,
+    own: Owner,
     second: RulePlace,
 ) -> Result<(), AllocError>
     ensures { OnOk result (lines.new.items
-        ≡ if is_some place then lines.old.items else lines.old.items ++ unmarked (What.Rule Side.Second second) ∷ []) }
+        ≡ if is_some place then lines.old.items else lines.old.items ++ unmarked (What.NewRule own second) ∷ []) }
 {
-    push_unless(lines, place.is_some(), What::Rule(Side::Second, second))
+    push_unless(lines, place.is_some(), What::NewRule { own, place: second })
 }
 
 /// The place of the rule, in a definition of the other dictionary, for the AVP that corresponds.

@@ -1,5 +1,6 @@
 //! The data that leaves have in vectors, by their formats.
 
+use crate::writing::four_bytes;
 use dia_book::{Format, Key};
 use std::alloc::{AllocError, Global};
 
@@ -37,7 +38,7 @@ impl Datum {
     }
 
     fn number(number: u32) -> Datum {
-        Datum::Number(number.to_be_bytes())
+        Datum::Number(four_bytes(number))
     }
 
     /// How many bytes it has.

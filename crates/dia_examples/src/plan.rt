@@ -14,6 +14,7 @@ use dia_breaking_shortest::shortest_head;
 use dia_wire::HEADER_LENGTH;
 use indexmap::IndexMap;
 use std::alloc::{AllocError, Global};
+use thiserror::Error;
 
 /// How the level of a definition is reached: by an AVP for a rule of another one.
 #[derive(Clone, Copy)]
@@ -67,11 +68,13 @@ pub struct Plan<'s, 'a, B: Book> {
 }
 
 /// Why a command has no vectors.
-#[derive(Debug, Clone, Copy, PartialEq, Eq)]
+#[derive(Debug, Clone, Copy, PartialEq, Eq, Error)]
 pub enum NoVectors {
     /// It has no valid message.
+    #[error("no message is valid")]
     NoMessage,
     /// Its plain message has more than `MAX_MESSAGE` bytes.
+    #[error("the plain message is too long")]
     TooLong,
 }
 

@@ -5,7 +5,8 @@ use crate::change::{Change, HeadChange, LevelChange};
 use crate::levels::{after, before};
 use crate::pieces::{Piece, length_of};
 use crate::plan::{Plan, Reached};
-use crate::writing::push_header;
+use crate::writing::{four_bytes, push_header};
+use byteorder::{BigEndian, ByteOrder};
 use dia_book::Book;
 use dia_breaking_levels::level_least;
 use dia_breaking_shortest::{push_least, shortest_head};
@@ -198,7 +199,7 @@ impl<B: Book> Plan<'_, '_, B> {
                 }
             }
             HeadChange::Code(code) => put(&mut bytes, 5, &three_bytes(u64::from(code))),
-            HeadChange::App(app) => put(&mut bytes, 8, &app.to_be_bytes()),
+            HeadChange::App(app) => put(&mut bytes, 8, &four_bytes(app)),
         }
         Ok(Some(bytes))
     }
@@ -237,6 +238,7 @@ fn put(bytes: &mut Vec<u8>, at: usize, new: &[u8]) {
 
 /// The last three bytes of a number.
 fn three_bytes(number: u64) -> [u8; 3] {
-    let bytes = number.to_be_bytes();
+    let mut bytes = [0; 8];
+    BigEndian::write_u64(&mut bytes, number);
     [bytes[5], bytes[6], bytes[7]]
 }

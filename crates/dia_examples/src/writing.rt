@@ -4,6 +4,7 @@ use crate::MAX_MESSAGE;
 use crate::data::{Datum, plain};
 use crate::pieces::Piece;
 use crate::plan::Plan;
+use byteorder::{BigEndian, ByteOrder};
 use dia_book::{Book, Key};
 use dia_breaking_shortest::{push_avp, push_head, push_length, shortest_head};
 use std::alloc::{AllocError, Global};
@@ -157,7 +158,14 @@ pub(crate) fn push_header(
     push_length(out, length)?;
     out.push(flags)?;
     push_length(out, u64::from(code))?;
-    out.extend_from_slice(&app.to_be_bytes())?;
-    out.extend_from_slice(&identifier.to_be_bytes())?;
-    out.extend_from_slice(&identifier.to_be_bytes())
+    out.extend_from_slice(&four_bytes(app))?;
+    out.extend_from_slice(&four_bytes(identifier))?;
+    out.extend_from_slice(&four_bytes(identifier))
+}
+
+/// The four bytes of a number.
+pub(crate) fn four_bytes(number: u32) -> [u8; 4] {
+    let mut bytes = [0; 4];
+    BigEndian::write_u32(&mut bytes, number);
+    bytes
 }

@@ -12,7 +12,7 @@ ghost use Rattle.dia_run.specs.Texts.{IsDictionaryText};
 
 use crate::forms::Form;
 use crate::lines::Writing;
-use crate::naming::places_of;
+use crate::naming::{places_of, unknown_note};
 use crate::tally::Tally;
 use dia_dict::Book;
 use dia_io::{Exit, Input, Inputs, RunFault, Sink, put_all};
@@ -101,6 +101,9 @@ pub fn examples_of<B: Book, S: Sink>(
     match places_of(alloc, book, commands)? {
         Ok(places) => put_vectors(alloc, book, unknown, form, &places, notes, sink),
         Err(name) => {
+            if let Ok(said) = unknown_note(alloc, book, name) {
+                *notes = said;
+            }
             let text = no_command_text(alloc, form, name)?;
             refuse(text.as_str(), sink)
         }

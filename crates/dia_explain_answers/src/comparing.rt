@@ -6,8 +6,8 @@ mod parts;
 mod reasons;
 
 use crate::sides::Side;
+use dia_compat::{Answer, Failing, PairKind, Test};
 use dia_explain_places::{InputTexts, Note};
-use dia_inclusion::{Answer, Failing, PairKind, Test};
 use dia_report::Compared;
 use pair::Pair;
 use pairing::{Pairing, place_of_pair};

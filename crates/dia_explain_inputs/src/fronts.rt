@@ -3,6 +3,7 @@
 use crate::kinds::{first_bad, first_line, is_capture};
 use crate::messages::{bytes_of, dump_of, push_bad};
 use crate::notes::push_whole;
+use byteorder::{BigEndian, ByteOrder};
 use dia_explain_places::{NamedText, Note, count_digits};
 use std::alloc::{AllocError, Global};
 
@@ -54,8 +55,8 @@ fn push_digits(note: &mut Note, input: &NamedText<'_>, line: &[u8], in_lines: bo
 fn is_cut(alloc: Global, line: &[u8]) -> Result<bool, AllocError> {
     let head = bytes_of(alloc, line, LENGTH_END)?;
     match head.as_slice() {
-        [1, a, b, c] => {
-            let length = u32::from_be_bytes([0, *a, *b, *c]) as usize;
+        [1, length @ ..] if length.len() == 3 => {
+            let length = BigEndian::read_u24(length) as usize;
             Ok(count_digits(line) / 2 < length)
         }
         _ => Ok(false),

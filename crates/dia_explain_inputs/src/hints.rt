@@ -163,9 +163,11 @@ static HINTS: &str = "\
     HeadApp: a name => an application has its number in the header, as 16777251 for S6a; dictionaries/README.md has \
      others\n\
     HeadError: anything => the answers with an error of all commands have one definition: < Diameter Header: code, ERR >\n\
+    HeadClose: , REQ.. or ,REQ.. => REQ precedes the Application-ID, as < Diameter Header: 272, REQ, PXY, 4 >\n\
     HeadClose: a number or , => a command has one Application-ID, and a group one vendor: define the command once for each \
      application\n\
     Late: anything or the end => a fixed rule < X > comes before all rules { X } and [ X ]\n\
+    Rule: , => rules have no commas between them: take it out\n\
     Rule: ( => a rule has no round brackets, and its counts come before it, as 1*3 { X }\n\
     Rule: +.. => one or more of X is 1* { X }, and any number * [ X ]\n\
     Rule: ..-.. => the counts of a rule are LEAST*GREATEST, as 0*1 { X }\n\

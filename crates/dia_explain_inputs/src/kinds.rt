@@ -1,6 +1,8 @@
 //! What a text is, by its contents.
 
 use crate::hints::{Sight, hint_of};
+use crate::notes::packed_of;
+use byteorder::{BigEndian, ByteOrder};
 use dia_explain_places::back;
 use dia_terms::is_white;
 
@@ -10,13 +12,16 @@ pub const RETURNS: &str = "the lines end in CR alone, and a comment ends at a li
 
 /// Whether bytes begin as a file of packets does (pcap or pcapng).
 pub fn is_capture(bytes: &[u8]) -> bool {
-    let [a, b, c, d, ..] = bytes else {
-        return false;
-    };
-    matches!(
-        u32::from_be_bytes([*a, *b, *c, *d]),
-        0xd4c3_b2a1 | 0xa1b2_c3d4 | 0x4d3c_b2a1 | 0xa1b2_3c4d | 0x0a0d_0d0a
-    )
+    bytes.len() >= 4
+        && matches!(
+            BigEndian::read_u32(bytes),
+            0xd4c3_b2a1 | 0xa1b2_c3d4 | 0x4d3c_b2a1 | 0xa1b2_3c4d | 0x0a0d_0d0a
+        )
+}
+
+/// Whether bytes begin as a file does that is no text: one of packets, or a packed one.
+pub fn is_foreign(bytes: &[u8]) -> bool {
+    is_capture(bytes) || packed_of(bytes).is_some()
 }
 
 /// The hint about a whole text at the place of an input.

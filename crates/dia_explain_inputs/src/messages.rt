@@ -2,7 +2,7 @@
 
 use crate::hints::{Sight, hint_of};
 use crate::kinds::{first_bad, first_line, hint_of_text, is_capture, kind_of_byte};
-use crate::notes::{SAVE, push_noted, push_too_long, push_whole};
+use crate::notes::{SAVE, packed_of, push_noted, push_too_long, push_whole};
 use dia_explain_places::{
     NamedText, Note, Unpadded, back, count_digits, find_unpadded, place_of_byte,
 };
@@ -55,6 +55,14 @@ pub fn push_bad(note: &mut Note, message: &NamedText<'_>, wanted: &str, at: usiz
     }
 }
 
+/// Adds what an input is that is a file of packets, or a packed one, in place of a text of messages.
+pub fn push_foreign(note: &mut Note, message: &NamedText<'_>, wanted: &str) {
+    match packed_of(message.text) {
+        Some(packed) => push_whole(note, message, packed.what, packed.hint),
+        None => push_capture(note, message.name, wanted, CAPTURED),
+    }
+}
+
 /// Adds that an input is a file of packets, and the hint.
 pub fn push_capture(note: &mut Note, name: &str, wanted: &str, hint: &str) {
     let recorded = ": this is a capture file (pcap), and not ";
@@ -77,13 +85,8 @@ fn push_binary(note: &mut Note, message: &NamedText<'_>) {
     if text.starts_with(b"\xff\xfe") || text.starts_with(b"\xfe\xff") {
         return push_whole(note, message, "the text is UTF-16", SAVE);
     }
-    if text.starts_with(b"\x1f\x8b") {
-        return push_whole(
-            note,
-            message,
-            "the file is packed by gzip",
-            "`gunzip` unpacks it",
-        );
+    if let Some(packed) = packed_of(text) {
+        return push_whole(note, message, packed.what, packed.hint);
     }
     let recorded = if text.first() == Some(&1) {
         ": these are the bytes of a message, and not hexadecimal text\nhint: write `xxd -p "

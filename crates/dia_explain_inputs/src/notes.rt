@@ -68,6 +68,9 @@ pub fn push_made(
 
 /// Adds the diagnostic of a text that isn't UTF-8 from a place on.
 pub fn push_not_text(note: &mut Note, input: &NamedText<'_>, at: usize) {
+    if let Some(packed) = packed_of(input.text) {
+        return push_whole(note, input, packed.what, packed.hint);
+    }
     push_recorded(note, input, at, "these bytes aren't UTF-8");
     let more = if input.text.contains(&0) {
         "; this one looks like UTF-16, or like no text at all"
@@ -75,6 +78,30 @@ pub fn push_not_text(note: &mut Note, input: &NamedText<'_>, at: usize) {
         ""
     };
     note.put_all(&["hint: ", SAVE, more, "\n"]);
+}
+
+/// A form in which files are packed.
+#[derive(Clone, Copy)]
+pub struct Packed {
+    pub what: &'static str,
+    pub hint: &'static str,
+}
+
+/// The form in which a file with these bytes is packed.
+pub fn packed_of(bytes: &[u8]) -> Option<Packed> {
+    if bytes.starts_with(b"\x1f\x8b") {
+        Some(Packed {
+            what: "the file is packed by gzip",
+            hint: "`gunzip` unpacks it",
+        })
+    } else if bytes.starts_with(b"PK\x03\x04") {
+        Some(Packed {
+            what: "the file is a ZIP archive, as a .docx file is",
+            hint: "save its text as UTF-8",
+        })
+    } else {
+        None
+    }
 }
 
 /// Adds bytes as text in quotes.

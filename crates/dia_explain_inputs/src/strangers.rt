@@ -2,9 +2,9 @@
 
 use crate::names::{Named, NamedSource, Vocabulary};
 use crate::sides::{first_of, second_of};
+use dia_compat::words_of;
 use dia_explain_places::{InputTexts, NamedText, Note, line_from};
 use dia_report::BothBooks;
-use dia_tables::words_of;
 
 /// The most names that are reported for a side.
 const MOST: usize = 50;

@@ -5,9 +5,9 @@ ghost use Rattle.dia_explain_inputs.specs.Beginnings.{TableBegins, LineBegins};
 use crate::hints::{Sight, hint_of};
 use crate::kinds::kind_of;
 use crate::notes::{push_made, push_not_text, push_quoted, push_too_long};
+use dia_compat::{MAX_NAME, MAX_PAIRS, MAX_TABLE, PairPart, Table};
 use dia_explain_places::{InputTexts, NamedText, Note, RefusedWord, back, limit_word, syntax_word};
 use dia_report::BadTable;
-use dia_tables::{MAX_NAME, MAX_PAIRS, MAX_TABLE, PairPart, Table};
 use std::alloc::{AllocError, Global};
 
 /// How many bytes of a word are shown.
@@ -139,7 +139,7 @@ pub fn push_no_pairs(note: &mut Note, texts: &InputTexts<'_>, table: &Table) {
     let (name, first, second) = (texts.table.name, texts.first.name, texts.second.name);
     note.put_all(&[
         name,
-        ": the table lists no command, so this yes says nothing\n",
+        ": the table lists no command, so nothing was compared\n",
     ]);
     note.put_all(&["hint: `diacmd propose ", first, " ", second]);
     note.put_all(&[

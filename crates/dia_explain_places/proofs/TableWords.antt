@@ -5,9 +5,9 @@ use Rattle.std.specs.List.{prefix_len, range_with_len}
 use Rattle.std.proofs.lemmas.Bool.{eq-eqb, eqb-true}
 use Rattle.std.proofs.lemmas.List.FromFn.{get_or-range_with_len, length-range_with_len}
 use Rattle.std.proofs.lemmas.List.Sums.{prefix_len_is}
-use Rattle.dia_tables.specs.Words.{PlainWords, word_of, words_in}
-use Rattle.dia_tables.specs.declared.PairPart.{PairPart}
-use Rattle.dia_tables.specs.declared.PairPart.TheVariants.{Kind, First, Sign, Second, After}
+use Rattle.dia_compat.specs.Words.{PlainWords, word_of, words_in}
+use Rattle.dia_compat.specs.declared.PairPart.{PairPart}
+use Rattle.dia_compat.specs.declared.PairPart.TheVariants.{Kind, First, Sign, Second, After}
 use Rattle.dia_explain_places.specs.Places.{line_at}
 use Rattle.dia_explain_places.specs.Tables.{line_from, place_on_line, start_of_line, words_of_line}
 

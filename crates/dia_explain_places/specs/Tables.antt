@@ -1,9 +1,9 @@
 -- Where a line of a table is refused.
 use Rattle.std.specs.Prelude.{ℕ, ◌+◌, ◌-◌, ◌==◌, not, if◌then◌else◌, List, length, take, drop, Option, Some, None, slice_get, unwrap_or}
 use Rattle.std.specs.List.{prefix_len, take_while, range_with_len}
-use Rattle.dia_tables.specs.Words.{PlainWords, limit_part, word_of, words_in, wrong_part}
-use Rattle.dia_tables.specs.declared.PairPart.{PairPart}
-use Rattle.dia_tables.specs.declared.PairPart.TheVariants.{After}
+use Rattle.dia_compat.specs.Words.{PlainWords, limit_part, word_of, words_in, wrong_part}
+use Rattle.dia_compat.specs.declared.PairPart.{PairPart}
+use Rattle.dia_compat.specs.declared.PairPart.TheVariants.{After}
 use Rattle.dia_explain_places.specs.Places.{line_at}
 
 -- ---- lines

@@ -2,6 +2,7 @@
 //! section 4.1).
 
 use crate::place::back;
+use byteorder::{BigEndian, ByteOrder};
 
 /// An AVP that has no padding, though its length is no multiple of four.
 #[derive(Clone, Copy)]
@@ -48,13 +49,14 @@ fn may_follow(rest: &[u8], is_within: bool) -> bool {
 /// The head of the AVP at the start of some bytes, if it looks like one: no reserved flag is set, and the length is that of an
 /// AVP which ends among these bytes.
 fn head_of(rest: &[u8]) -> Option<Head> {
-    let [a, b, c, d, flags, e, f, g, ..] = rest else {
+    if rest.len() < 8 {
         return None;
-    };
-    let code = u32::from_be_bytes([*a, *b, *c, *d]);
-    let length = u32::from_be_bytes([0, *e, *f, *g]) as usize;
-    let least = if *flags & 0x80 == 0 { 8 } else { 12 };
-    if *flags & 0x1f == 0 && length >= least && length <= rest.len() {
+    }
+    let code = BigEndian::read_u32(rest);
+    let flags = rest[4];
+    let length = BigEndian::read_u24(&rest[5..]) as usize;
+    let least = if flags & 0x80 == 0 { 8 } else { 12 };
+    if flags & 0x1f == 0 && length >= least && length <= rest.len() {
         Some(Head { code, length })
     } else {
         None

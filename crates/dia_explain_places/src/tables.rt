@@ -1,12 +1,12 @@
 //! The word for which a line of a table is refused.
 
 ghost use Rattle.std.specs.Prelude.{◌≡◌, ◌<◌, ◌≤◌, ◌+◌, ◌^◌, ℕ, length};
-ghost use Rattle.dia_tables.specs.Words.{limit_part, plain_words, word_of};
+ghost use Rattle.dia_compat.specs.Words.{limit_part, plain_words, word_of};
 ghost use Rattle.dia_explain_places.specs.Places.{line_at};
 ghost use Rattle.dia_explain_places.specs.Tables.{limit_place, syntax_part, syntax_place, words_of_line};
 
 use crate::lines::{line_from, start_of_line};
-use dia_tables::{PairPart, PairWords, words_of};
+use dia_compat::{PairPart, PairWords, words_of};
 
 /// A word of a table's line, which is empty where the line has no more words.
 #[derive(Clone, Copy)]

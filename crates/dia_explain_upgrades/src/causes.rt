@@ -1,5 +1,6 @@
 //! Where both dictionaries have what a cause is about, and what can be changed.
 
+use crate::namesakes::{Namesakes, Twins};
 use dia_breaking_places::{Matter, MatterKind, Places, first_place, second_place};
 use dia_ccf::Source;
 use dia_explain_places::{InputTexts, NamedText, Note};
@@ -20,6 +21,7 @@ struct Cause<'a> {
     summary: &'a str,
     /// The reason, without `undecided` before it; or `undecided`.
     reason: &'a str,
+    /// The name of the AVP, or `CODE:VENDOR`.
     subject: &'a str,
     path: &'a str,
 }
@@ -28,7 +30,7 @@ impl<'a> Cause<'a> {
     fn of(words: &'a str) -> Option<Cause<'a>> {
         let (rest, path) = words.rsplit_once(", first in ")?;
         let (summary, _) = rest.rsplit_once(", in ")?;
-        let (front, _) = summary.split_once(':')?;
+        let (front, _) = summary.split_once(": ")?;
         let (reason, subject) = front.rsplit_once(' ')?;
         let reason = reason.strip_prefix("undecided ").unwrap_or(reason);
         Some(Cause {
@@ -106,6 +108,7 @@ pub(crate) fn push_causes(
     note: &mut Note,
     texts: &InputTexts<'_>,
     books: &BothBooks,
+    namesakes: &mut Namesakes<'_>,
     causes: &[Recorded],
     all: bool,
 ) -> Result<(), AllocError> {
@@ -121,7 +124,11 @@ pub(crate) fn push_causes(
     for recorded in causes.iter().take(count) {
         if let Some(cause) = Cause::of(recorded.words.as_str()) {
             push_cause(note, &first, &second, &cause)?;
-            let fixes = fixes_of(cause.reason, cause.subject);
+            let twins = namesakes.twins(cause.subject);
+            if let Some(twins) = twins {
+                namesakes.push(note, twins)?;
+            }
+            let fixes = fixes_for(&cause, twins);
             if !hinted.contains(&fixes.in_second) {
                 push_fixes(note, &first, &second, fixes);
                 hinted.push(fixes.in_second)?;
@@ -171,8 +178,7 @@ fn push_spot(note: &mut Note, side: &Side<'_>, at: Option<usize>) {
     }
 }
 
-/// The text of the part that begins at a place: of a rule or a head to the end of its bracket, of a declaration to the next
-/// part, a comment or the end of the line.
+/// The text of the part that begins at a place: a rule, the name and head of a definition, or a declaration.
 fn part_from(text: &[u8], at: usize) -> &[u8] {
     let rest = text.get(at..).unwrap_or(&[]);
     let rest = rest.get(..MOST_SHOWN).unwrap_or(rest);
@@ -184,6 +190,7 @@ fn part_from(text: &[u8], at: usize) -> &[u8] {
     rest.get(..end).unwrap_or(rest).trim_ascii_end()
 }
 
+/// The end of a declaration: the next part, a comment or the end of the line.
 fn end_of_declaration(rest: &[u8]) -> usize {
     let tail = rest.get(1..).unwrap_or(&[]);
     match tail
@@ -195,14 +202,30 @@ fn end_of_declaration(rest: &[u8]) -> usize {
     }
 }
 
-/// The end of the first bracket; of a head the one after `::=`.
+/// The end of the first pair of brackets; of the second one, if `::=` follows the first.
 fn end_of_bracket(rest: &[u8]) -> usize {
-    let from = rest.iter().position(|byte| *byte == b'=').unwrap_or(0);
-    let tail = rest.get(from..).unwrap_or(rest);
-    match tail
+    let end = end_of_pair(rest);
+    let tail = rest.get(end..).unwrap_or(&[]);
+    if tail.trim_ascii_start().starts_with(b"::=") {
+        end.saturating_add(end_of_pair(tail))
+    } else {
+        end
+    }
+}
+
+/// The end of the first pair of brackets.
+fn end_of_pair(rest: &[u8]) -> usize {
+    let opening = rest
         .iter()
-        .position(|byte| matches!(*byte, b'>' | b'}' | b']'))
-    {
+        .position(|byte| matches!(*byte, b'<' | b'{' | b'['));
+    let from = opening.unwrap_or(rest.len());
+    let tail = rest.get(from..).unwrap_or(&[]);
+    let closing = match tail.first() {
+        Some(b'<') => b'>',
+        Some(b'{') => b'}',
+        _ => b']',
+    };
+    match tail.iter().position(|byte| *byte == closing) {
         Some(end) => from.saturating_add(end).saturating_add(1),
         None => rest.len(),
     }
@@ -227,6 +250,21 @@ fn push_fix(note: &mut Note, front: &str, side: &Side<'_>, fix: &str) {
     note.put(side.text.name);
     note.put(": ");
     note.put(fix);
+}
+
+/// The fixes of a cause. Where its AVP has another code or vendor in the other dictionary, nothing else helps.
+fn fixes_for(cause: &Cause<'_>, twins: Option<Twins<'_>>) -> Fixes {
+    match twins {
+        Some(twins) if twins.is_moved => Fixes {
+            in_second: "declare the AVP with the code and vendor that are sent",
+            in_first: "declare it with the code and vendor that are accepted",
+        },
+        Some(twins) if twins.is_lacked && cause.reason == "missing" => Fixes {
+            in_second: "lower the least count of the AVP, which isn't the one that is sent",
+            in_first: "declare the AVP that is accepted, and send it",
+        },
+        _ => fixes_of(cause.reason, cause.subject),
+    }
 }
 
 /// The fixes of a reason, as docs/FAULTS.md has them.

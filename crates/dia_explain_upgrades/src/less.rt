@@ -26,7 +26,9 @@ pub fn push_less(note: &mut Note, asked: Asked<'_>, inputs: &Inputs, books: &Bot
             push_left(note, Sends::Listed, "listed", asked, inputs, books);
             push_left(note, Sends::Known, "known", asked, inputs, books);
         }
-        Sends::Known => push_left(note, Sends::Listed, "listed", asked, inputs, books),
+        Sends::Known | Sends::Filled => {
+            push_left(note, Sends::Listed, "listed", asked, inputs, books);
+        }
         Sends::Listed => {}
     }
 }

@@ -3,9 +3,10 @@
 use crate::causes::push_causes;
 use crate::less::push_less;
 use crate::list::{push_bad_list, push_unused};
-use crate::namesakes::push_namesakes;
+use crate::namesakes::{Namesakes, push_namesakes};
 use crate::tally::{push_meanings, push_tally};
 use crate::unchosen::push_unchosen;
+use crate::unsent::push_unsent;
 use crate::without_commands::push_without_commands;
 use dia_explain_inputs::{first_of, push_empty, push_refused, push_unknown_commands, second_of};
 use dia_explain_places::{InputTexts, Note};
@@ -29,10 +30,20 @@ pub fn explain_upgrade(
         Report::Refused(bad) => push_refused(&mut note, texts, bad),
         Report::Read { books, found } => {
             push_empty(&mut note, &texts.second);
+            let first = first_of(texts, books);
+            let mut namesakes = Namesakes::of(alloc, &first, &second_of(texts, books))?;
             if let Findings::Listed { causes, .. } = found {
-                push_causes(&mut note, texts, books, causes, explain)?;
+                push_causes(&mut note, texts, books, &mut namesakes, causes, explain)?;
             }
-            push_found(&mut note, texts, asked, inputs, books, found)?;
+            push_found(
+                &mut note,
+                texts,
+                asked,
+                inputs,
+                books,
+                &mut namesakes,
+                found,
+            )?;
         }
     }
     note.finish()
@@ -45,6 +56,7 @@ fn push_found(
     asked: Asked<'_>,
     inputs: &Inputs,
     books: &BothBooks,
+    namesakes: &mut Namesakes<'_>,
     found: &Findings,
 ) -> Result<(), AllocError> {
     match found {
@@ -60,14 +72,10 @@ fn push_found(
             if *lines > 0 {
                 push_less(note, asked, inputs, books);
             }
+            push_unsent(note, texts.first.name, asked, books)?;
             push_meanings(note, meanings);
             push_unchosen(note, texts, books, asked.names, causes)?;
-            push_namesakes(
-                note,
-                &first_of(texts, books),
-                &second_of(texts, books),
-                causes,
-            )?;
+            push_namesakes(note, namesakes, causes)?;
             push_unused(note, &texts.table, unused, stale);
         }
         Findings::NoList(bad) => push_bad_list(note, &texts.table, bad),

@@ -48,7 +48,7 @@ pub(crate) struct Answered {
     /// How many lines were answered, up to the greatest number.
     pub(crate) number: u64,
     space: Vec<u8>,
-    /// The answers that weren't put yet.
+    /// Pending answers.
     pub(crate) text: String,
 }
 

@@ -6,6 +6,7 @@ ghost use Rattle.dia_follow_text.specs.Entries.{after_end, after_second, cut_wor
 use crate::times::read_time;
 use dia_follow::End;
 use std::marker::Model;
+use thiserror::Error;
 
 /// A line that has a message.
 #[derive(Drop)]
@@ -27,15 +28,19 @@ impl<'a> Model for Entry<'a> {
 }
 
 /// Why a line is refused, in this order.
-#[derive(Clone, Copy, Debug, PartialEq, Eq)]
+#[derive(Clone, Copy, Debug, PartialEq, Eq, Error)]
 pub enum BadLine {
     /// It has more bytes than the text of a message may have.
+    #[error("the line is too long")]
     TooLong,
     /// It hasn't two or three words, of which the first is `>` or `<`.
+    #[error("the line hasn't the form END [TIME] HEX")]
     Syntax,
     /// TIME isn't 1 to 10 digits, with a point and 1 to 9 digits after them or without.
+    #[error("no time")]
     Time,
     /// HEX isn't pairs of hexadecimal digits.
+    #[error("not hexadecimal")]
     NotHexadecimal,
 }
 

@@ -98,7 +98,7 @@ pub(crate) fn push_unanswered<B: Book>(
     }
 }
 
-/// Adds the line of a line that is refused.
+/// Adds the diagnostic for a refused line.
 pub(crate) fn push_bad_line(
     text: &mut String,
     json: bool,

@@ -24,7 +24,7 @@ use dia_follow::{End, Head, Moment, Reason, Request};
 use dia_refused_json::quoted;
 use std::alloc::{AllocError, Global};
 
-/// Adds the line of a line that is refused.
+/// Adds the diagnostic for a refused line.
 pub(crate) fn push_bad_line(text: &mut String, number: u64, bad: BadLine) -> Result<(), AllocError>
     ensures { OnOk result (string_bytes text.new ≡ string_bytes text.old ++ bad_line_object number bad) }
 {

@@ -176,7 +176,7 @@ fn after_piece(bad: Option<BadLine>) -> Progress
     }
 }
 
-/// Puts the answers that weren't put yet.
+/// Flushes pending answers.
 fn put_answers<S: Sink>(answered: &mut Answered, sink: &mut S) -> Result<(), Failed>
     requires { ¬ IsTrue (S.has_failed sink.old) }
     ensures put { OnOk result
@@ -211,7 +211,7 @@ fn ended(alloc: Global, answered: &Answered) -> Followed
     }
 }
 
-/// Puts the line of a line that is refused.
+/// Puts the diagnostic for a refused line.
 fn refuse_line<S: Sink>(
     alloc: Global,
     json: bool,

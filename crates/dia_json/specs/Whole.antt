@@ -4,8 +4,8 @@ use Rattle.std.specs.List.{flat_map}
 use Rattle.serde_json.specs.Data.{Members, member, no_members, number, string, unsigned}
 use Rattle.dia_dict.specs.Dictionary.{Dictionary}
 use Rattle.dia_terms.specs.declared.Unknown.{Unknown}
-use Rattle.dia_inclusion.specs.Proposed.{IsFirstUnknown, IsProposal}
-use Rattle.dia_tables.specs.TableText.{PlainTable}
+use Rattle.dia_compat.specs.Proposed.{IsFirstUnknown, IsProposal}
+use Rattle.dia_compat.specs.TableText.{PlainTable}
 use Rattle.dia_io.specs.declared.Inputs.{Inputs}
 use Rattle.dia_io.specs.declared.Exit.{Exit}
 use Rattle.dia_io.specs.declared.Exit.TheVariants.{Bad, Yes}

@@ -2,20 +2,19 @@
 
 ghost use Rattle.std.specs.Prelude.{◌≡◌, ◌++◌, map, IfOk, OnOk, string_bytes};
 ghost use Rattle.std.specs.List.{flat_map};
-ghost use Rattle.dia_tables.specs.TableText.{plain_pair, plain_table};
+ghost use Rattle.dia_compat.specs.TableText.{plain_pair, plain_table};
 ghost use Rattle.dia_refused_json.specs.Members.{json_line};
 ghost use Rattle.dia_refused_json.specs.Recording.{HasReport};
 ghost use Rattle.dia_json.specs.Reports.{IsProposeReport};
 ghost use Rattle.dia_json.specs.Whole.{IsProposeJson, no_command_members, pair_json, table_json};
 
 use dia_check::Unknown;
+use dia_compat::{ProposeFault, Table};
 use dia_dict::{Book, IndexedBook};
-use dia_inclusion::ProposeFault;
 use dia_io::{Exit, Inputs};
 use dia_refused_json::{quoted, refuse};
 use dia_report::{Answered, BothBooks, Report};
 use dia_run::read_dictionary;
-use dia_tables::Table;
 use std::alloc::{AllocError, Global};
 
 /// The table for the named commands of the first dictionary.
@@ -37,7 +36,7 @@ pub fn propose(
         Ok(read) => read,
         Err(refused) => return refuse(alloc, &inputs.second, refused),
     };
-    match dia_inclusion::propose(alloc, &first.book, &second.book, unknown, names) {
+    match dia_compat::propose(alloc, &first.book, &second.book, unknown, names) {
         Ok(table) => listed(alloc, &table),
         Err(ProposeFault::UnknownCommand { name }) => {
             no_command(alloc, name.as_str(), BothBooks { first, second })

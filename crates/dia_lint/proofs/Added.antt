@@ -10,16 +10,8 @@ use Rattle.dia_lint.specs.declared.finding.Finding.{Finding}
 use Rattle.dia_lint.specs.declared.finding.Subject.{Subject}
 use Rattle.dia_lint.specs.declared.rule.Rule.{Rule}
 use Rattle.dia_lint.specs.Exact.{AreOfMessages, is_no_level, is_no_message, is_of_messages, reported}
-use Rattle.dia_lint.specs.Gathered.{Adds, IsAside, gathered, way_of, ways_in}
+use Rattle.dia_lint.specs.Gathered.{Adds, gathered, way_of, ways_in}
 use Rattle.dia_lint.proofs.Reported.{about, none_reported}
-
-pub adds_none : (xs : List Finding) → Adds [] [] [] xs xs
-adds_none xs = record {
-  of_messages = sym (append-nil (reported is_no_message xs));
-  of_levels = sym (append-nil (reported is_no_level xs));
-  of_ways = sym (append-nil (ways_in xs));
-  rules = λ all. all;
-}
 
 pub adds_more : (a b m l : List ℕ) (v w : List (Rule × Subject)) (xs ys zs : List Finding) → Adds a b v xs ys → Adds m l w ys zs → Adds (a ++ m) (b ++ l) (v ++ w) xs zs
 adds_more a b m l v w xs ys zs first second = record {
@@ -48,10 +40,6 @@ pub of_messages_list : (o : Option Finding) → IfSome o (λ (x : Finding). is_o
 of_messages_list None own = λ k d lt. absurd (omega (arith, lt))
 of_messages_list (Some x) own = All-cons (λ (y : Finding). is_of_messages y.rule ≡ true) x [] own (λ k d lt. absurd (omega (arith, lt)))
 
-pub aside_adds : (w : List (Rule × Subject)) (old new : List Finding) (o : Option Finding) → IsAside o → ways_in (option_to_list o) ≡ w → new ≡ old ++ option_to_list o → Adds [] [] w old new
-aside_adds w old new None aside ways is = adds_pushed [] [] w old new [] is refl refl ways (of_messages_list None tt)
-aside_adds w old new (Some x) aside ways is = adds_pushed [] [] w old new (x ∷ []) is (none_reported is_no_message [] x aside.0) (none_reported is_no_level [] x aside.1) ways (of_messages_list (Some x) aside.2)
-
 -- one part more
 pub one_part_more : {X : Type 0} (part : ℕ → List X) (i : ℕ) → gathered part i ++ part i ≡ gathered part (i + 1)
 one_part_more part i = ap (gathered part) (let same : suc i ≡ i + 1 = omega arith in same)
@@ -60,16 +48,3 @@ one_part_more part i = ap (gathered part) (let same : suc i ≡ i + 1 = omega ar
 pub one_rule_more : {X Y : Type 0} (f : X → List Y) (xs : List X) (i : ℕ) (x : X) → slice_get xs i ≡ Some x → flat_map f (take i xs) ++ f x ≡ flat_map f (take (i + 1) xs)
 one_rule_more {X} {Y} f xs i x at =
     sym (ap (flat_map f) (taken xs i x at) ∙ flat_map-append f (take i xs) (x ∷ []) ∙ ap (λ (ys : List Y). flat_map f (take i xs) ++ ys) (append-nil (f x)))
-
-pub one_rule_adds : {X : Type 0} (f : X → List (Rule × Subject)) (xs ys : List X) (i : ℕ) (x : X) (old mid new : List Finding) (o : Option Finding) → ys ≡ xs → slice_get ys i ≡ Some x
-    → Adds [] [] (flat_map f (take i xs)) old mid → IsAside o → ways_in (option_to_list o) ≡ f x → new ≡ mid ++ option_to_list o → Adds [] [] (flat_map f (take (i + 1) xs)) old new
-one_rule_adds {X} f xs ys i x old mid new o same at before aside ways is =
-    subst (λ (ws : List (Rule × Subject)). Adds [] [] ws old new) (one_rule_more f xs i x (ap (λ (zs : List X). slice_get zs i) (sym same) ∙ at))
-    (adds_then [] [] (flat_map f (take i xs)) (f x) old mid new before (aside_adds (f x) mid new o aside ways is))
-
--- a finding that may be there is pushed, and then what messages have
-pub adds_found : {T E : Type 0} (m l : List ℕ) (w : List (Rule × Subject)) (old mid new : List Finding) (o : Option Finding) (r : Result T E) → mid ≡ old ++ option_to_list o
-    → reported is_no_message (option_to_list o) ≡ m → reported is_no_level (option_to_list o) ≡ l → ways_in (option_to_list o) ≡ []
-    → IfSome o (λ (x : Finding). is_of_messages x.rule ≡ true) → OnOk r (Adds [] [] w mid new) → OnOk r (Adds m l w old new)
-adds_found m l w old mid new o (Ok x) is messages levels ways own last = adds_then m l [] w old mid new (adds_pushed m l [] old mid (option_to_list o) is messages levels ways (of_messages_list o own)) last
-adds_found m l w old mid new o (Err e) is messages levels ways own last = tt

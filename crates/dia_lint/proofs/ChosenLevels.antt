@@ -1,5 +1,5 @@
 -- A least level that has a chosen AVP exists, and its AVPs are made.
-use Rattle.std.proofs.Common.{◌≡◌, ℕ, ◌+◌, ◌-◌, ◌<◌, ◌≤◌, zero, suc, Bool, true, false, List, Option, Some, None, refl, ap, subst, arith}
+use Rattle.std.proofs.Common.{◌≡◌, ℕ, ◌+◌, ◌-◌, ◌<◌, ◌≤◌, ◌≢◌, zero, suc, Bool, true, false, List, Option, Some, None, refl, ap, subst, arith, inl, inr}
 use Rattle.std.specs.Prelude.{nat_eq, nat_le, nat_lt, not, ◌||◌, if◌then◌else◌, IfSome, IsTrue, Contains}
 use Rattle.std.specs.List.{AllByRecursion}
 use Rattle.std.specs.Option.{option_eq, option_map_or}
@@ -9,7 +9,7 @@ use Rattle.dia_book.specs.declared.DRule.{DRule}
 use Rattle.dia_book.specs.Dictionary.{Dictionary, IsDictionary, PlainDefinition, AreRules, definitions}
 use Rattle.dia_book.proofs.SameKeys.{same_key-refl}
 use Rattle.dia_terms.specs.declared.Sends.{Sends}
-use Rattle.dia_terms.specs.declared.Sends.TheVariants.{Any, Known, Listed}
+use Rattle.dia_terms.specs.declared.Sends.TheVariants.{Any, Known, Filled, Listed}
 use Rattle.dia_valid.specs.Valid.{Placed, is_listed}
 use Rattle.dia_valid.specs.Rules.{wildcard_of}
 use Rattle.dia_valid.proofs.Members.{IsIn, contains_in, in_contains}
@@ -47,12 +47,14 @@ some_room (Some (suc n)) e = omega arith
 other_same : (d : Dictionary) (sends : Sends) (lengths : List ℕ) (key : Key) → other_length d sends lengths key < too_long → other_length d sends lengths key ≡ length_of d sends lengths key
 other_same d Any lengths key short = refl
 other_same d Known lengths key short = refl
+other_same d Filled lengths key short = absurd (omega (arith, short))
 other_same d Listed lengths key short = absurd (omega (arith, short))
 
-stand_by : (sends : Sends) (rules : List DRule) (keys : List Key) → Placed rules keys → (sends ≡ Listed → AllByRecursion (λ k. IsTrue (is_listed rules k)) keys) → StandAsSent sends rules keys
-stand_by Any rules keys placed all = placed
-stand_by Known rules keys placed all = placed
-stand_by Listed rules keys placed all = (placed, all refl)
+stand_by : (sends : Sends) (rules : List DRule) (keys : List Key) → sends ≢ Filled → Placed rules keys → (sends ≡ Listed → AllByRecursion (λ k. IsTrue (is_listed rules k)) keys) → StandAsSent sends rules keys
+stand_by Any rules keys other placed all = (placed, inl refl)
+stand_by Known rules keys other placed all = (placed, inl refl)
+stand_by Filled rules keys other placed all = absurd (other refl)
+stand_by Listed rules keys other placed all = (placed, inr (all refl))
 
 -- ---- the level
 
@@ -97,7 +99,7 @@ module _ (s : Side) (is : IsDictionary s.book) (of : AreOfSide s) (group : Plain
         let placed = chosen_placed rules are asks.filler key rule is_rule own room asks.free in
         let own_made = length_made s.book s.sends s.lengths is of.spelled of.exact key small short in
         let all = chosen_all rules are asks.filler key rule is_rule own room asks.free (λ (k : Key). IsMade s.book s.sends k (f k)) own_made asks.made in
-        (keys, stand_by s.sends rules keys placed all_listed, all, chosen_has rules are asks.filler key rule is_rule own room asks.free, sum)
+        (keys, stand_by s.sends rules keys of.not_filled placed all_listed, all, chosen_has rules are asks.filler key rule is_rule own room asks.free, sum)
 
     -- where the rule asks for none
     more : rule.min ≡ 0 → IsMadeWith s rules key (base + f key)

@@ -11,7 +11,7 @@ use Rattle.dia_book.specs.Dictionary.{Dictionary, DictEntry, PlainDefinition, Is
 use Rattle.dia_valid.specs.Valid.{is_listed}
 use Rattle.dia_valid.proofs.Members.{IsIn, at_in, contains_in, in_contains, taken}
 use Rattle.dia_terms.specs.declared.Sends.{Sends}
-use Rattle.dia_terms.specs.declared.Sends.TheVariants.{Any, Known, Listed}
+use Rattle.dia_terms.specs.declared.Sends.TheVariants.{Any, Known, Filled, Listed}
 use Rattle.dia_breaking_levels.specs.LevelTests.{too_long, least_filler}
 use Rattle.dia_breaking_levels.specs.Levels.{OtherIsShortest}
 use Rattle.dia_breaking_levels.proofs.FloorBounds.{rule_of_listed}
@@ -84,6 +84,7 @@ module _ (d : Dictionary) (sends : Sends) (lengths : List ℕ) (exact : AreExact
           short zero = omega arith
           short (suc n) = omega arith
       unknown Known = (omega arith, omega arith)
+      unknown Filled = (omega arith, omega arith)
       unknown Listed = (omega arith, omega arith)
 
       by : (o : Option ℕ) → entry_of d key ≡ o
@@ -146,6 +147,7 @@ module _ (d : Dictionary) (lengths : List ℕ) (is : IsDictionary d) (def : Plai
       → IsFillerLength d sends lengths def.rules (least_filler (other_length d sends lengths) others def.rules)
   filler_is Any others exact (key, first, are) = ap (λ (keys : List Key). least_filler (other_length d Any lengths) keys def.rules) are ∙ strange_filler key first
   filler_is Known others exact are = known_filler others exact are
+  filler_is Filled others exact are = ap (λ (keys : List Key). least_filler (other_length d Filled lengths) keys def.rules) are
   filler_is Listed others exact are = ap (λ (keys : List Key). least_filler (other_length d Listed lengths) keys def.rules) are
 
   -- none that a wildcard lets in is shorter
@@ -155,6 +157,7 @@ module _ (d : Dictionary) (lengths : List ℕ) (is : IsDictionary d) (def : Plai
       let low = (length_within d Any lengths exact key).0 in
       omega (arith, eight, low)
   filler_least Known others exact are = λ key free. (known_filler others exact are).none_is_shorter key free
+  filler_least Filled others exact are = λ key free. let most : least_filler (other_length d Filled lengths) others def.rules ≡ too_long = filler_is Filled others exact are in omega (arith, most)
   filler_least Listed others exact are = λ key free. let most : least_filler (other_length d Listed lengths) others def.rules ≡ too_long = filler_is Listed others exact are in omega (arith, most)
 
 -- ---- keys, one after the other

@@ -36,9 +36,9 @@ use Rattle.dia_lint.specs.Costs.{AreLengths, other_length, sender_of}
 use Rattle.dia_lint.specs.Exact.{AreNumbered, NoLevelIsExact}
 use Rattle.dia_lint.specs.Gathered.{gathered, is_of_ways, reports, way_of as way_of_finding, ways_in}
 use Rattle.dia_lint.specs.Guidelines.{lets_in}
-use Rattle.dia_lint.specs.Held.{HasLevel, HasNoLevel, IsHeld, IsHeldByRules, IsInLevel, IsOtherInLevel, IsReported, IsValidLevel, OthersAreHeld, OthersAreListed, OthersStand, OtherWildcardsStand}
+use Rattle.dia_lint.specs.Held.{HasLevel, HasNoLevel, IsHeld, IsHeldByRules, IsHeldBySide, IsInLevel, IsOtherInLevel, IsReported, IsSentLevel, IsValidLevel, OthersAreHeld, OthersAreListed, OthersStand, OtherWildcardsStand}
 use Rattle.dia_lint.specs.OwnRules.{named_by}
-use Rattle.dia_lint.specs.WayLines.{IsListedReached, Reported, avp_part, command_part, definition_part, group_part, is_long_group, rule_length, rules_part, stands_part}
+use Rattle.dia_lint.specs.WayLines.{IsListedReached, IsReachedBy, Reported, avp_part, command_part, definition_part, group_part, is_long_group, rule_length, rules_part, stands_part}
 use Rattle.dia_lint.specs.Ways.{Side, AreOfSide, IsReached, cost_of, has_in, listed_in, other_in, way_in, with_listed, with_other, with_rule}
 use Rattle.dia_lint.proofs.ChosenLevels.{listed_chosen, other_chosen}
 use Rattle.dia_lint.proofs.Fillers.{filler_is}
@@ -72,10 +72,7 @@ into_flat_map f (z ∷ xs) x y (inr i) j = in_right (f z) (flat_map f xs) y (int
 
 -- ---- what a side sends is valid, or comes by rules
 
-abbrev IsSentLevelBy : Dictionary → Sends → ℕ → List PlainAvp → Type 0
-IsSentLevelBy d w n avps = (bytes : List ℕ) × (c : ℕ) × (sent : IsSent d w bytes c) × HasLevel d c sent.avps n avps
-
-valid_level_of : (d : Dictionary) (u : Unknown) (n : ℕ) (avps : List PlainAvp) → IsSentLevelBy d (sender_of u) n avps → IsValidLevel d u n avps
+valid_level_of : (d : Dictionary) (u : Unknown) (n : ℕ) (avps : List PlainAvp) → IsSentLevel d (sender_of u) n avps → IsValidLevel d u n avps
 valid_level_of d u n avps (bytes, c, sent, has) =
     let valid = valid_of d u bytes c sent in
     (bytes, c, valid.0, sent.are_bytes, subst (λ (vs : List PlainAvp). HasLevel d c vs n avps) (sym valid.1) has)
@@ -103,15 +100,15 @@ module _ (s : Side) (is : IsDictionary s.book) (are : AreOfSide s) (r : Reached)
       sym h.own ∙ ap (λ (x : DictEntry). x.key) (same_Some h.entry entry (sym here ∙ at))
 
   -- some message has an AVP of the entry
-  pub record IsHeldBySide (key : Key) : Type 0 where
+  pub record IsMade (key : Key) : Type 0 where
     pub n : ℕ
     pub level : IsMadeIn s n key
     pub short : listed_in s key < too_long
 
-  pub held : (e : ℕ) (entry : DictEntry) → slice_get s.book.entries e ≡ Some entry → has_in r e ≡ true → IsHeldBySide entry.key
+  pub held : (e : ℕ) (entry : DictEntry) → slice_get s.book.entries e ≡ Some entry → has_in r e ≡ true → IsMade entry.key
   held e entry at has =
       let h = hosted e (slice_get_within s.book.entries e entry at) has in
-      subst IsHeldBySide (one_key e entry h.key at h.is_place) (record { n = h.n; level = h.level; short = h.short })
+      subst IsMade (one_key e entry h.key at h.is_place) (record { n = h.n; level = h.level; short = h.short })
 
   -- ---- definitions with a level
 
@@ -191,26 +188,27 @@ module _ (s : Side) (is : IsDictionary s.book) (are : AreOfSide s) (r : Reached)
             (other_chosen s is are w.def (in_book n w) key free small (omega (arith, other, short))) (omega (arith, other, size, fits)),
       )
 
--- ---- AVPs that come by rules
+-- ---- AVPs that a side sends
 
-by_rules : (s : Side) (is : IsDictionary s.book) (are : AreOfSide s) (r : Reached) (reached : IsReached s r) → s.sends ≡ Listed → AreNumbered s.book → (e : ℕ) (entry : DictEntry)
-    → slice_get s.book.entries e ≡ Some entry → has_in r e ≡ true → IsHeldByRules s.book entry.key
-by_rules s is are r reached sends numbered e entry at has =
+by_side : (s : Side) (is : IsDictionary s.book) (are : AreOfSide s) (r : Reached) (reached : IsReached s r) → AreNumbered s.book → (e : ℕ) (entry : DictEntry)
+    → slice_get s.book.entries e ≡ Some entry → has_in r e ≡ true → IsHeldBySide s.book s.sends entry.key
+by_side s is are r reached numbered e entry at has =
     let h = held s is are r reached numbered e entry at has in
-    (h.n, h.level.avps, subst (λ (w : Sends). IsSentLevelBy s.book w h.n h.level.avps) sends h.level.sent, h.level.has)
+    (h.n, h.level.avps, h.level.sent, h.level.has)
 
-held_by_rules : (d : Dictionary) (r : Reached) → IsDictionary d → IsListedReached d r → AreNumbered d → (e : ℕ) (entry : DictEntry) → slice_get d.entries e ≡ Some entry → has_in r e ≡ true
-    → IsHeldByRules d entry.key
-held_by_rules d r is (s, book, sends, are, reached) =
-    subst (λ (b : Dictionary). AreNumbered b → (e : ℕ) (entry : DictEntry) → slice_get b.entries e ≡ Some entry → has_in r e ≡ true → IsHeldByRules b entry.key) book
-    (by_rules s (subst IsDictionary (sym book) is) are r reached sends)
+pub held_by_side : (d : Dictionary) (who : Sends) (r : Reached) → IsDictionary d → IsReachedBy d who r → AreNumbered d → (e : ℕ) (entry : DictEntry) → slice_get d.entries e ≡ Some entry → has_in r e ≡ true
+    → IsHeldBySide d who entry.key
+held_by_side d who r is (s, book, sends, are, reached) =
+    subst (λ (b : Dictionary). AreNumbered b → (e : ℕ) (entry : DictEntry) → slice_get b.entries e ≡ Some entry → has_in r e ≡ true → IsHeldBySide b who entry.key) book
+    (subst (λ (w : Sends). AreNumbered s.book → (e : ℕ) (entry : DictEntry) → slice_get s.book.entries e ≡ Some entry → has_in r e ≡ true → IsHeldBySide s.book w entry.key) sends
+    (by_side s (subst IsDictionary (sym book) is) are r reached))
 
 -- ---- what isn't reported
 
 module _ (u : Unknown) (s : Side) (is : IsDictionary s.book) (are : AreOfSide s) (r : Reached) (reached : IsReached s r) (sends : s.sends ≡ sender_of u) (x : List Reported) (found : List Finding)
     (all : ways_in found ≡ (gathered (group_part s r) (length s.book.entries) ++ gathered (command_part s r) (length s.book.commands)) ++ x) (avps : AreAvpWays s r x) where
   valid_in : (n : ℕ) (key : Key) → IsMadeIn s n key → IsInLevel s.book u n key
-  valid_in n key m = (m.avps, valid_level_of s.book u n m.avps (subst (λ (w : Sends). IsSentLevelBy s.book w n m.avps) sends m.sent), m.has)
+  valid_in n key m = (m.avps, valid_level_of s.book u n m.avps (subst (λ (w : Sends). IsSentLevel s.book w n m.avps) sends m.sent), m.has)
 
   into_levels : (rule : Rule) (subject : Subject) → Contains (gathered (group_part s r) (length s.book.entries) ++ gathered (command_part s r) (length s.book.commands)) (reports rule subject)
       → IsReported found rule subject
@@ -295,7 +293,7 @@ module _ (u : Unknown) (s : Side) (is : IsDictionary s.book) (are : AreOfSide s)
 
       of_listed : (listed : Reached) → IsListedReached s.book listed → x ≡ gathered (avp_part s r listed) (length s.book.entries) → (c : Bool) → has_in listed e ≡ c
           → IsReported found NeverListed (Avp e) ⊎ IsHeldByRules s.book entry.key
-      of_listed listed of is_x true is_c = inr (held_by_rules s.book listed is of numbered e entry at is_c)
+      of_listed listed of is_x true is_c = inr (held_by_side s.book Listed listed is of numbered e entry at is_c)
       of_listed listed of is_x false is_c = inl (into_part listed e true false NeverListed within is_x short has_it is_c refl)
 
       by : AreAvpWays s r x → IsReported found NeverListed (Avp e) ⊎ IsHeldByRules s.book entry.key

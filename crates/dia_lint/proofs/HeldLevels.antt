@@ -126,7 +126,7 @@ module _ (s : Side) (is : IsDictionary s.book) (are : AreOfSide s) (steps : List
     placed = stand_placed s.sends rules keys l.inner.stand
 
     prices : total (price f (other_in s) rules) keys ≡ total f keys
-    prices = stand_price s.book s.sends s.lengths rules keys l.inner.stand
+    prices = stand_price s.book s.sends s.lengths rules keys are.not_filled l.inner.stand
 
     key_there : (v : PlainAvp) → Contains avps v → Contains keys (key_of v)
     key_there v has = contains_in keys (key_of v) (in_map key_of avps v (in_contains avps v has))
@@ -334,7 +334,7 @@ module _ (s : Side) (is : IsDictionary s.book) (are : AreOfSide s) (steps : List
           let has : Contains (definitions s.book) command = contains_in (definitions s.book) command (in_at (definitions s.book) (length (groups s.book) + i) command (into_right (groups s.book) s.book.commands i command at)) in
           let least = least_within f (other_in s) s.others command.rules (cost_of s command.rules).base (definition_rules s.book command is has) refl
           (filler_least s.book s.lengths is command has s.sends s.others are.exact are.are_others) (map key_of avps) (stand_placed s.sends command.rules (map key_of avps) stand) in
-          let price = stand_price s.book s.sends s.lengths command.rules (map key_of avps) stand in
+          let price = stand_price s.book s.sends s.lengths command.rules (map key_of avps) are.not_filled stand in
           let all = all_within f avps (λ v i. no_shorter s.book s.sends f are.floors v (data_bytes avps body v spelled bytes i) (sent.0, in_all (IsSentWithin s.book s.sends sent.0) v avps sent.1 i)) in
           let sum = keeps s.book s.sends command.rules (length body) avps (own (length body) (omega arith)) in
           omega (arith, least, price, all, sum)

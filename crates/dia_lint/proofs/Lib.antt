@@ -1,4 +1,5 @@
 pub mod Added
+pub mod ExactLists
 pub mod ChosenLevels
 pub mod ChosenPlans
 pub mod CommandLines
@@ -8,6 +9,7 @@ pub mod FirstRequests
 pub mod FoundLevels
 pub mod FoundWays
 pub mod Headers
+pub mod HeldAvps
 pub mod HeldLevels
 pub mod HostedLevels
 pub mod InRange
@@ -19,6 +21,7 @@ pub mod Messages
 pub mod NormalParts
 pub mod NormalSets
 pub mod Places
+pub mod Projections
 pub mod Reported
 pub mod RulesThatSayNothing
 pub mod SameCommands

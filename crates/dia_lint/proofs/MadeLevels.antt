@@ -11,7 +11,7 @@ use Rattle.dia_valid.proofs.GroupNumbers.{number_of, group_there}
 use Rattle.dia_valid.proofs.Members.{contains_in, in_at, in_contains, IsIn}
 use Rattle.dia_valid.proofs.RulesOfKeys.{is_listed_by}
 use Rattle.dia_terms.specs.declared.Sends.{Sends}
-use Rattle.dia_terms.specs.declared.Sends.TheVariants.{Any, Known, Listed}
+use Rattle.dia_terms.specs.declared.Sends.TheVariants.{Any, Known, Filled, Listed}
 use Rattle.dia_breaking_sites.specs.Sent.{StandAsSent, AreBytes}
 use Rattle.dia_breaking_data.specs.Shortest.{AreBytes as AreLeafBytes}
 use Rattle.dia_breaking_levels.specs.LeastLevels.{total, or_filler, plan, IsFiller}
@@ -101,6 +101,7 @@ module _ (d : Dictionary) (lengths : List ℕ) (unknown : Key) (is : IsDictionar
       by : (a ≡ too_long) ⊎ ((key : Key) × (is_listed group.rules key ≡ false) × (a ≡ length_of d Known lengths key)) → (key : Key) × IsFilledBy Known group.rules a key
       by (inl none) = (unknown, λ lt. absurd (omega (arith, none, lt)))
       by (inr (key, free, same)) = (key, λ lt. (sym same, free, short_spelled key (omega (arith, same, lt))))
+  filled Filled group a has h = (unknown, λ lt. absurd (omega (arith, h, lt)))
   filled Listed group a has h = (unknown, λ lt. absurd (omega (arith, h, lt)))
 
   -- ---- AVPs
@@ -119,6 +120,7 @@ module _ (d : Dictionary) (lengths : List ℕ) (unknown : Key) (is : IsDictionar
   unknown_at : (sends : Sends) (key : Key) → IsSpellable key → known d key ≡ None → unknown_length sends key < too_long → IsMade d sends key (unknown_length sends key)
   unknown_at Any key small none short = subst (IsMade d Any key) (padded_head key) (unknown_made d key small none)
   unknown_at Known key small none short = absurd (omega (arith, short))
+  unknown_at Filled key small none short = absurd (omega (arith, short))
   unknown_at Listed key small none short = absurd (omega (arith, short))
 
   module _ (sends : Sends) (v a : ℕ) (group : PlainDefinition) (q : Key) (before : AreMadeBelow sends v) (has : Contains (definitions d) group) (fills : IsFilledBy sends group.rules a q)
@@ -154,14 +156,15 @@ module _ (d : Dictionary) (lengths : List ℕ) (unknown : Key) (is : IsDictionar
     placed : AreRules group.rules → Placed group.rules (plan q group.rules)
     placed are = plan_placed group.rules q are free
 
-  listed_all : (a : ℕ) (q : Key) (rules : List DRule) → a ≡ too_long → base_length (length_of d Listed lengths) a rules < too_long → AllByRecursion (λ key. IsTrue (is_listed rules key)) (plan q rules)
-  listed_all a q rules none below = plan_all (λ (key : Key). IsTrue (is_listed rules key)) q rules (asked_listed (length_of d Listed lengths) a q rules none below)
+  listed_all : (sends : Sends) (a : ℕ) (q : Key) (rules : List DRule) → a ≡ too_long → base_length (length_of d sends lengths) a rules < too_long → AllByRecursion (λ key. IsTrue (is_listed rules key)) (plan q rules)
+  listed_all sends a q rules none below = plan_all (λ (key : Key). IsTrue (is_listed rules key)) q rules (asked_listed (length_of d sends lengths) a q rules none below)
 
   stand : (sends : Sends) (a : ℕ) (q : Key) (rules : List DRule) → IsFillerLength d sends lengths rules a → base_length (length_of d sends lengths) a rules < too_long → Placed rules (plan q rules)
       → StandAsSent sends rules (plan q rules)
-  stand Any a q rules is_a below placed = placed
-  stand Known a q rules is_a below placed = placed
-  stand Listed a q rules is_a below placed = (placed, listed_all a q rules is_a below)
+  stand Any a q rules is_a below placed = (placed, inl refl)
+  stand Known a q rules is_a below placed = (placed, inl refl)
+  stand Filled a q rules is_a below placed = (placed, inr (listed_all Filled a q rules is_a below))
+  stand Listed a q rules is_a below placed = (placed, inr (listed_all Listed a q rules is_a below))
 
   -- a least level, whose AVPs are made
   abbrev LevelMade : Sends → ℕ → List DRule → Type 0

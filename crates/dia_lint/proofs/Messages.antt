@@ -16,7 +16,7 @@ use Rattle.dia_terms.specs.declared.Unknown.{Unknown}
 use Rattle.dia_terms.specs.declared.Unknown.TheVariants.{Kept, Refused}
 use Rattle.dia_terms.specs.declared.Levels.TheVariants as levels
 use Rattle.dia_terms.specs.declared.Sends.{Sends}
-use Rattle.dia_terms.specs.declared.Sends.TheVariants.{Any, Known, Listed}
+use Rattle.dia_terms.specs.declared.Sends.TheVariants.{Any, Known, Filled, Listed}
 use Rattle.dia_valid.specs.Valid.{AllFit, Fits, IsLevel, IsValidOf, Placed, is_listed, known}
 use Rattle.dia_valid.proofs.Members.{contains_in, in_at}
 use Rattle.dia_breaking_sites.specs.Sent.{AreBytes, AreSentAvps, IsSent, IsSentLevel, IsSentWithin, StandAsSent, own_policy}
@@ -51,8 +51,12 @@ abbrev IsSame : Sends → Type 0
 IsSame sends = (rules : List DRule) (keys : List Key) → (StandAsSent sends rules keys → Placed rules keys) × (Placed rules keys → StandAsSent sends rules keys)
 
 same_of : (u : Unknown) → IsSame (sender_of u)
-same_of Kept = λ rules keys. (λ h. h, λ h. h)
-same_of Refused = λ rules keys. (λ h. h, λ h. h)
+same_of Kept = λ rules keys. (λ h. h.0, λ h. (h, inl refl))
+same_of Refused = λ rules keys. (λ h. h.0, λ h. (h, inl refl))
+
+pub not_filled : (u : Unknown) → sender_of u ≢ Filled
+not_filled Kept = λ e. absurd (let bad : Any ≡ Filled = e in cc)
+not_filled Refused = λ e. absurd (let bad : Known ≡ Filled = e in cc)
 
 not_listed : (u : Unknown) → sender_of u ≢ Listed
 not_listed Kept = λ e. absurd (let f : true ≡ false = ap is_any e in cc)
@@ -306,7 +310,7 @@ module _ (d : Dictionary) (u : Unknown) (lengths : List ℕ) (others : List Key)
   has_room : (c : ℕ) → HasMessage d u c → level_of d (sender_of u) lengths others c < too_long
   has_room c (bytes, all, valid) =
       let own = subst (λ (p : Unknown). IsValidOf d p levels.Any bytes c) (sym (own_of u)) valid in
-      let s = valid_sent d (sender_of u) bytes c (not_listed u) all own in
+      let s = valid_sent d (sender_of u) bytes c (not_filled u) (not_listed u) all own in
       let low = no_message d (sender_of u) (length_of d (sender_of u) lengths) are.floors bytes c s in
       let keys = map key_of s.avps in
       let within = level_within d c s.command s.is_command (sender_of u) lengths others is are (same_of u) others_same keys ((same_of u s.command.rules keys).0 s.stand) in

@@ -1,6 +1,6 @@
 -- The levels of messages that are sent: what they take, and the levels in their AVPs.
-use Rattle.std.proofs.Common.{◌≡◌, ℕ, zero, suc, ◌+◌, ◌<◌, ◌≤◌, Bool, true, false, List, [], ◌∷◌, ◌++◌, length, map, Option, Some, None, refl, sym, ap, subst, ◌∙◌, arith, inl, inr}
-use Rattle.std.specs.Prelude.{if◌then◌else◌, sum_by, unwrap_or, MatchOption, slice_get, option_and_then}
+use Rattle.std.proofs.Common.{◌≡◌, ℕ, zero, suc, ◌+◌, ◌<◌, ◌≤◌, ◌≢◌, Bool, true, false, List, [], ◌∷◌, ◌++◌, length, map, Option, Some, None, refl, sym, ap, subst, ◌∙◌, arith, inl, inr}
+use Rattle.std.specs.Prelude.{◌⊎◌, IsTrue, if◌then◌else◌, sum_by, unwrap_or, MatchOption, slice_get, option_and_then}
 use Rattle.std.proofs.lemmas.List.{append_cancel_left, length-append}
 use Rattle.std.proofs.lemmas.List.Sums.{sum_by-cons}
 use Rattle.std.proofs.lemmas.Option.{none-some}
@@ -11,12 +11,12 @@ use Rattle.dia_data.specs.Leaf.{IsLeaf}
 use Rattle.dia_book.specs.declared.DRule.{DRule}
 use Rattle.dia_book.specs.Dictionary.{Dictionary, DictEntry, PlainDefinition, definitions, entry_of, group_place}
 use Rattle.dia_terms.specs.declared.Sends.{Sends}
-use Rattle.dia_terms.specs.declared.Sends.TheVariants.{Any, Known, Listed}
+use Rattle.dia_terms.specs.declared.Sends.TheVariants.{Any, Known, Filled, Listed}
 use Rattle.dia_valid.specs.Valid.{IsAccepted, MHolds, Placed, is_listed, known}
 use Rattle.dia_valid.proofs.GroupNumbers.{group_number as group_by}
 use Rattle.dia_valid.proofs.Members.{IsIn, in_all}
 use Rattle.dia_breaking_levels.specs.LevelTests.{too_long, price}
-use Rattle.dia_breaking_sites.specs.Sent.{own_policy, IsSentLevel, IsSentWithin, StandAsSent}
+use Rattle.dia_breaking_sites.specs.Sent.{is_open, own_policy, AreListed, IsSentLevel, IsSentWithin, StandAsSent}
 use Rattle.dia_breaking_shortest.specs.Floors.{shortest_head, total, vendor_field}
 use Rattle.dia_breaking_shortest.proofs.FloorsOfAvps.{rounded_up}
 use Rattle.dia_breaking_shortest.specs.Lengths.{length_of}
@@ -92,22 +92,25 @@ either false m n e = e
 
 -- what is sent is where the rules place it
 pub stand_placed : (sends : Sends) (rules : List DRule) (keys : List Key) → StandAsSent sends rules keys → Placed rules keys
-stand_placed Any rules keys h = h
-stand_placed Known rules keys h = h
-stand_placed Listed rules keys h = h.0
+stand_placed sends rules keys h = h.0
 
 -- and each of its AVPs takes what one by a rule does
-pub stand_price : (d : Dictionary) (sends : Sends) (lengths : List ℕ) (rules : List DRule) (keys : List Key) → StandAsSent sends rules keys
+pub stand_price : (d : Dictionary) (sends : Sends) (lengths : List ℕ) (rules : List DRule) (keys : List Key) → sends ≢ Filled → StandAsSent sends rules keys
     → total (price (length_of d sends lengths) (other_length d sends lengths) rules) keys ≡ total (length_of d sends lengths) keys
-stand_price d Any lengths rules keys h =
+stand_price d Any lengths rules keys other h =
     total_same (price (length_of d Any lengths) (other_length d Any lengths) rules) (length_of d Any lengths) keys
     (λ q i. either (is_listed rules q) (length_of d Any lengths q) (length_of d Any lengths q) refl)
-stand_price d Known lengths rules keys h =
+stand_price d Known lengths rules keys other h =
     total_same (price (length_of d Known lengths) (other_length d Known lengths) rules) (length_of d Known lengths) keys
     (λ q i. either (is_listed rules q) (length_of d Known lengths q) (length_of d Known lengths q) refl)
-stand_price d Listed lengths rules keys h =
-    total_same (price (length_of d Listed lengths) (other_length d Listed lengths) rules) (length_of d Listed lengths) keys
-    (λ q i. ap (λ (b : Bool). if b then length_of d Listed lengths q else too_long) (in_all (λ key. is_listed rules key ≡ true) q keys h.1 i))
+stand_price d Filled lengths rules keys other h = absurd (other refl)
+stand_price d Listed lengths rules keys other h = by h.1
+  where
+    by : IsTrue (is_open Listed rules) ⊎ AreListed rules keys → total (price (length_of d Listed lengths) (other_length d Listed lengths) rules) keys ≡ total (length_of d Listed lengths) keys
+    by (inl never) = absurd (let bad : false ≡ true = never in cc)
+    by (inr all) =
+        total_same (price (length_of d Listed lengths) (other_length d Listed lengths) rules) (length_of d Listed lengths) keys
+        (λ q i. ap (λ (b : Bool). if b then length_of d Listed lengths q else too_long) (in_all (λ key. is_listed rules key ≡ true) q keys all i))
 
 -- ---- the level in an AVP
 

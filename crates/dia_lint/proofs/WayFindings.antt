@@ -12,7 +12,6 @@ use Rattle.dia_book.specs.declared.DRule.{DRule}
 use Rattle.dia_book.specs.Dictionary.{Dictionary, PlainDefinition, IsDictionary, definitions, entry_of, group_place, groups, is_command, selected}
 use Rattle.dia_book.proofs.Members.{at_append, at_map, at_Contains}
 use Rattle.dia_terms.specs.declared.Sends.{Sends}
-use Rattle.dia_terms.specs.declared.Sends.TheVariants.{Listed}
 use Rattle.dia_terms.specs.declared.Unknown.{Unknown}
 use Rattle.dia_valid.specs.Rules.{rules_in}
 use Rattle.dia_valid.specs.Valid.{class_of}
@@ -29,7 +28,7 @@ use Rattle.dia_lint.specs.declared.rule.Rule.{Rule}
 use Rattle.dia_lint.specs.declared.rule.Rule.TheVariants.{NeverHeld, NeverListed, NeverStands}
 use Rattle.dia_lint.specs.Costs.{sender_of}
 use Rattle.dia_lint.specs.Gathered.{gathered, is_of_ways, reports, way_of as way_of_finding, ways_in}
-use Rattle.dia_lint.specs.Held.{HasKey, IsListedLevel, IsReported, IsValidLevel}
+use Rattle.dia_lint.specs.Held.{HasKey, IsReported, IsSentLevel, IsValidLevel}
 use Rattle.dia_lint.specs.OwnRules.{named_by}
 use Rattle.dia_lint.specs.WayLines.{Reported, avp_part, command_part, definition_part, group_part, is_long_group, rule_length, rules_part, stands_part}
 use Rattle.dia_lint.specs.Ways.{Side, AreOfSide, IsReached, cost_of, has_in, way_in, with_rule}
@@ -193,13 +192,12 @@ module _ (u : Unknown) (s : Side) (is : IsDictionary s.book) (are : AreOfSide s)
       (subst (λ (w : Sends). AreSentAvps s.book w valid.avps) (sym sends) (sent_avps s.book u valid.avps valid.fit)) in
       each_below s is are reached.steps reached.reached reached.walk depth c valid.avps n level below (subst (λ (k : ℕ). At s is are r reached k valid.avps) (sym number) top)
 
-module _ (s : Side) (is : IsDictionary s.book) (are : AreOfSide s) (r : Reached) (reached : IsReached s r) (sends : s.sends ≡ Listed) where
-  pub listed_level : (n : ℕ) (level : List PlainAvp) → IsListedLevel s.book n level → At s is are r reached n level
-  listed_level n level (bytes, c, sent, (depth, below)) =
+-- that of a message that the side sends
+module _ (s : Side) (is : IsDictionary s.book) (are : AreOfSide s) (r : Reached) (reached : IsReached s r) where
+  pub sent_level : (n : ℕ) (level : List PlainAvp) → IsSentLevel s.book s.sends n level → At s is are r reached n level
+  sent_level n level (bytes, c, sent, (depth, below)) =
       let (i, number, at) = selected_command s.book sent.header.code (class_of sent.header.flags) sent.header.app c sent.command sent.select sent.is_command in
       let m = sent.message in
       let top = top_level s is are reached.steps reached.reached reached.walk i sent.command sent.avps at m.body (body_short sent.header sent.avps bytes m sent.are_bytes)
-      (body_bytes sent.header sent.avps bytes m sent.are_bytes) m.is_body
-      (subst (λ (w : Sends). StandAsSent w sent.command.rules (map key_of sent.avps)) (sym sends) sent.stand)
-      (subst (λ (w : Sends). AreSentAvps s.book w sent.avps) (sym sends) sent.sent) in
+      (body_bytes sent.header sent.avps bytes m sent.are_bytes) m.is_body sent.stand sent.sent in
       each_below s is are reached.steps reached.reached reached.walk depth c sent.avps n level below (subst (λ (k : ℕ). At s is are r reached k sent.avps) (sym number) top)

@@ -11,7 +11,7 @@ use Rattle.dia_book.specs.declared.DRule.{DRule}
 use Rattle.dia_book.specs.Dictionary.{Dictionary, DictEntry, PlainDefinition, entry_of, groups}
 use Rattle.dia_book.proofs.Members.{at_Contains, at_append, at_filter_map, at_map, into_left, into_map, into_right}
 use Rattle.dia_terms.specs.declared.Sends.{Sends}
-use Rattle.dia_terms.specs.declared.Sends.TheVariants.{Any, Known, Listed}
+use Rattle.dia_terms.specs.declared.Sends.TheVariants.{Any, Known, Filled, Listed}
 use Rattle.dia_valid.specs.Rules.{rules_in}
 use Rattle.dia_valid.proofs.Members.{IsIn, in_at}
 use Rattle.dia_breaking_levels.specs.LevelTests.{too_long, capped, many, base_length, least_filler}
@@ -34,6 +34,7 @@ use Rattle.dia_lint.proofs.WayCosts.{base_most}
 pub other_more : (d : Dictionary) (sends : Sends) (lengths : List ℕ) (key : Key) → AreExact d sends lengths → length_of d sends lengths key ≤ other_length d sends lengths key
 other_more d Any lengths key exact = omega arith
 other_more d Known lengths key exact = omega arith
+other_more d Filled lengths key exact = (length_within d Filled lengths exact key).1
 other_more d Listed lengths key exact = (length_within d Listed lengths exact key).1
 
 -- ---- a least level with an AVP

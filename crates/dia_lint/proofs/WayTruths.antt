@@ -11,6 +11,7 @@ use Rattle.dia_book.specs.declared.DefHead.TheVariants.{Group}
 use Rattle.dia_book.specs.declared.DRule.{DRule}
 use Rattle.dia_book.specs.Dictionary.{Dictionary, DictEntry, IsCommandHead, PlainDefinition, IsDictionary, definitions, group_place, groups}
 use Rattle.dia_book.proofs.Members.{at_Contains, into_right}
+use Rattle.dia_terms.specs.declared.Sends.{Sends}
 use Rattle.dia_terms.specs.declared.Sends.TheVariants.{Listed}
 use Rattle.dia_terms.specs.declared.Unknown.{Unknown}
 use Rattle.dia_valid.specs.Rules.{rules_in}
@@ -30,15 +31,17 @@ use Rattle.dia_lint.specs.declared.reached.Reached.{Reached}
 use Rattle.dia_lint.specs.declared.rule.Rule.TheVariants.{NeverHeld, NeverListed, NeverStands}
 use Rattle.dia_lint.specs.Costs.{sender_of}
 use Rattle.dia_lint.specs.Gathered.{Adds, gathered, reports, ways_in}
-use Rattle.dia_lint.specs.Held.{HasKey, IsHeldByRules, NeverHeldIsTrue, NeverListedIsTrue, NeverStandsIsTrue, NoOthersIsTrue}
+use Rattle.dia_lint.specs.Held.{HasKey, IsHeldBySide, NeverHeldIsTrue, NeverListedIsTrue, NeverStandsIsTrue, NoOthersIsTrue}
 use Rattle.dia_lint.specs.OwnRules.{named_by}
-use Rattle.dia_lint.specs.WayLines.{AddsUnreached, rule_length, IsListedReached, Reported, With_commands, Without_commands, avp_part, command_part, group_part}
+use Rattle.dia_lint.specs.ExactLines.{AddsAvpLines, AreAvpLines, With_commands, Without_commands, avp_lines}
+use Rattle.dia_lint.specs.WayLines.{rule_length, IsListedReached, IsReachedBy, Reported, avp_part, command_part, group_part}
 use Rattle.dia_lint.specs.Ways.{Side, AreOfSide, IsReached, cost_of, graph_in, has_in, listed_in, other_in, way_in, with_listed, with_other, with_rule}
 use Rattle.dia_lint.proofs.Fillers.{filler_least}
 use Rattle.dia_lint.proofs.FoundWays.{rules_at}
 use Rattle.dia_lint.proofs.HeldLevels.{IsPlaceOf, other_within, rule_within}
+use Rattle.dia_lint.proofs.Projections.{adds_nothing, adds_projected, of_entries}
 use Rattle.dia_lint.proofs.Reported.{own_place}
-use Rattle.dia_lint.proofs.WayFindings.{At, IsOfAvp, IsOfLevels, entry_in, has_entry, is_held_rule, is_listed_rule, is_stands_rule, listed_level, number_in, of_avps, of_commands, of_groups, reported_in, valid_level}
+use Rattle.dia_lint.proofs.WayFindings.{At, IsOfAvp, IsOfLevels, entry_in, has_entry, is_held_rule, is_listed_rule, is_stands_rule, number_in, of_avps, of_commands, of_groups, reported_in, sent_level, valid_level}
 
 both_ways : {X : Type 0} (b : Bool) → b ≡ true → b ≡ false → X
 both_ways b e f = absurd (let bad : true ≡ false = sym e ∙ f in cc)
@@ -115,17 +118,19 @@ no_group d n e i is at within number =
         by None at = absurd (none-some n (sym (ap (λ (o : Option DictEntry). option_and_then (λ (x : DictEntry). option_map (λ _. number_of d j) x.group) o) at) ∙ h))
         by (Some x) at = (x, at)
 
--- ---- of AVPs that come by rules
+-- ---- of AVPs that a side sends
 
-listed_has : (s : Side) (is : IsDictionary s.book) (are : AreOfSide s) (r : Reached) (reached : IsReached s r) → s.sends ≡ Listed → (e : ℕ) (entry : DictEntry) → slice_get s.book.entries e ≡ Some entry
-    → IsHeldByRules s.book entry.key → has_in r e ≡ true
-listed_has s is are r reached sends e entry at (n, level, listed, has) =
-    has_entry s is are r reached n level entry.key e (listed_level s is are r reached sends n level listed) has (own_place s.book e entry is at) (slice_get_within s.book.entries e entry at)
+sent_has : (s : Side) (is : IsDictionary s.book) (are : AreOfSide s) (r : Reached) (reached : IsReached s r) (e : ℕ) (entry : DictEntry) → slice_get s.book.entries e ≡ Some entry
+    → IsHeldBySide s.book s.sends entry.key → has_in r e ≡ true
+sent_has s is are r reached e entry at (n, level, sent, has) =
+    has_entry s is are r reached n level entry.key e (sent_level s is are r reached n level sent) has (own_place s.book e entry is at) (slice_get_within s.book.entries e entry at)
 
-held_by_rules : (d : Dictionary) (r : Reached) → IsDictionary d → IsListedReached d r → (e : ℕ) (entry : DictEntry) → slice_get d.entries e ≡ Some entry → IsHeldByRules d entry.key → has_in r e ≡ true
-held_by_rules d r is (s, book, sends, are, reached) =
-    subst (λ (b : Dictionary). (e : ℕ) (entry : DictEntry) → slice_get b.entries e ≡ Some entry → IsHeldByRules b entry.key → has_in r e ≡ true) book
-    (listed_has s (subst IsDictionary (sym book) is) are r reached sends)
+pub held_has : (d : Dictionary) (who : Sends) (r : Reached) → IsDictionary d → IsReachedBy d who r → (e : ℕ) (entry : DictEntry) → slice_get d.entries e ≡ Some entry → IsHeldBySide d who entry.key
+    → has_in r e ≡ true
+held_has d who r is (s, book, sends, are, reached) =
+    subst (λ (b : Dictionary). (e : ℕ) (entry : DictEntry) → slice_get b.entries e ≡ Some entry → IsHeldBySide b who entry.key → has_in r e ≡ true) book
+    (subst (λ (w : Sends). (e : ℕ) (entry : DictEntry) → slice_get s.book.entries e ≡ Some entry → IsHeldBySide s.book w entry.key → has_in r e ≡ true) sends
+    (sent_has s (subst IsDictionary (sym book) is) are r reached))
 
 -- ---- what is reported
 
@@ -138,15 +143,17 @@ pub record Unreached (s : Side) (r : Reached) (old new : List Finding) : Type 0 
   pub adds : Adds [] [] ways old new
   pub are : AreAvpWays s r ways
 
-pub unreached : (s : Side) (r : Reached) (old new : List Finding) → AddsUnreached s r old new → Unreached s r old new
-unreached s r old new (Without_commands none same) = record { ways = []; adds = same; are = inl (none, refl) }
-unreached s r old new (With_commands listed is adds) = record { ways = gathered (avp_part s r listed) (length s.book.entries); adds = adds; are = inr (listed, is, refl) }
-
--- what is added where there is a command
-pub with_commands : {T E : Type 0} (s : Side) (r listed : Reached) (old new : List Finding) (res : Result T E) → IsListedReached s.book listed
-    → OnOk res (Adds [] [] (gathered (avp_part s r listed) (length s.book.entries)) old new) → OnOk res (AddsUnreached s r old new)
-with_commands s r listed old new (Ok x) is adds = With_commands listed is adds
-with_commands s r listed old new (Err e) is adds = tt
+pub unreached : (s : Side) (r : Reached) (old new : List Finding) → AddsAvpLines s r old new → Unreached s r old new
+unreached s r old new (lines, are, added) = by are
+  where
+    by : AreAvpLines s r lines → Unreached s r old new
+    by (Without_commands none no_lines) = record { ways = []; adds = adds_nothing lines old new no_lines added; are = inl (none, refl) }
+    by (With_commands listed is are) = record {
+      ways = gathered (avp_part s r listed) (length s.book.entries);
+      adds = adds_projected [] [] (gathered (avp_part s r listed) (length s.book.entries)) (gathered (avp_lines s r listed) (length s.book.entries)) old new (of_entries s r listed (length s.book.entries))
+          (added ∙ ap (λ (xs : List Finding). old ++ xs) are);
+      are = inr (listed, is, refl);
+    }
 
 module _ (u : Unknown) (s : Side) (is : IsDictionary s.book) (are : AreOfSide s) (r : Reached) (reached : IsReached s r) (sends : s.sends ≡ sender_of u) (x : List Reported) (found : List Finding)
     (all : ways_in found ≡ (gathered (group_part s r) (length s.book.entries) ++ gathered (command_part s r) (length s.book.commands)) ++ x) (avps : AreAvpWays s r x) where
@@ -186,7 +193,7 @@ module _ (u : Unknown) (s : Side) (is : IsDictionary s.book) (are : AreOfSide s)
       by (inl l) = both_ways true refl (ap (λ (y : Reported). is_listed_rule y.0) l.rule.is)
       by (inr (listed, of, (i, lt, inl (same, lacks)))) = both_ways true refl (ap (λ (y : Reported). is_listed_rule y.0) same)
       by (inr (listed, of, (i, lt, inr (same, lacks)))) =
-          both_ways (has_in listed e) (held_by_rules s.book listed is of e entry at held) (ap (has_in listed) (ap (λ (y : Reported). entry_in y.1) same) ∙ lacks)
+          both_ways (has_in listed e) (held_has s.book Listed listed is of e entry at held) (ap (has_in listed) (ap (λ (y : Reported). entry_in y.1) same) ∙ lacks)
 
   -- ---- rules
 

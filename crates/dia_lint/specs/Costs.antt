@@ -1,10 +1,10 @@
 -- What AVPs take that a side sends (RFC 6733 section 4.1).
-use Rattle.std.specs.Prelude.{◌≡◌, ℕ, List, [], ◌∷◌, map}
+use Rattle.std.specs.Prelude.{◌≡◌, ◌≢◌, ℕ, List, [], ◌∷◌, map}
 use Rattle.std.specs.List.Sorted.{IsPermutation, IsNonDecreasingBy}
 use Rattle.dia_wire.specs.declared.Key.{Key}
 use Rattle.dia_book.specs.Dictionary.{Dictionary}
 use Rattle.dia_terms.specs.declared.Sends.{Sends}
-use Rattle.dia_terms.specs.declared.Sends.TheVariants.{Any, Known, Listed}
+use Rattle.dia_terms.specs.declared.Sends.TheVariants.{Any, Known, Filled, Listed}
 use Rattle.dia_terms.specs.declared.Unknown.{Unknown}
 use Rattle.dia_terms.specs.declared.Unknown.TheVariants.{Kept, Refused}
 use Rattle.dia_valid.specs.Rules.{rules_in}
@@ -18,6 +18,7 @@ use Rattle.dia_breaking_shortest.specs.Lengths.{length_of}
 abbrev pub other_length : Dictionary → Sends → List ℕ → Key → ℕ
 other_length d Any lengths key = length_of d Any lengths key
 other_length d Known lengths key = length_of d Known lengths key
+other_length d Filled lengths key = too_long
 other_length d Listed lengths key = too_long
 
 -- what is valid is what this side sends
@@ -32,10 +33,12 @@ entry_keys d = map (λ e. e.key) d.entries
 abbrev pub AreOthers : Dictionary → Sends → List ℕ → List Key → Type 0
 AreOthers d Any lengths others = (key : Key) × IsFirstUnknown d key × (others ≡ key ∷ [])
 AreOthers d Known lengths others = IsNonDecreasingBy (length_of d Known lengths) others × IsPermutation (entry_keys d) others
+AreOthers d Filled lengths others = others ≡ []
 AreOthers d Listed lengths others = others ≡ []
 
--- the lengths of a side's shortest AVPs
+-- the lengths of a side's shortest AVPs, by whose wildcards AVPs come everywhere or nowhere
 pub record AreLengths (d : Dictionary) (sends : Sends) (lengths : List ℕ) (others : List Key) : Type 0 where
+  pub not_filled : sends ≢ Filled
   pub floors : AreFloors d sends (length_of d sends lengths)
   pub exact : AreExact d sends lengths
   pub spelled : AreSpellable d

@@ -55,7 +55,3 @@ pub record Adds (messages levels : List ℕ) (ways : List (Rule × Subject)) (ol
   pub of_levels : reported is_no_level new ≡ reported is_no_level old ++ levels
   pub of_ways : ways_in new ≡ ways_in old ++ ways
   pub rules : AreOfMessages old → AreOfMessages new
-
--- a finding of another rule about messages
-abbrev pub IsAside : Option Finding → Type 0
-IsAside found = IfSome found (λ (x : Finding). (is_no_message x.rule ≡ false) × (is_no_level x.rule ≡ false) × (is_of_messages x.rule ≡ true))

@@ -1,10 +1,11 @@
 -- What the levels of messages have, and the findings about what none of them has (RFC 6733 sections 3.2 and 4.4).
-use Rattle.std.specs.Prelude.{◌⊎◌, ◌≡◌, ℕ, zero, suc, ◌<◌, true, false, List, length, map, Option, Some, None, option_and_then, slice_get, Contains}
+use Rattle.std.specs.Prelude.{◌⊎◌, ◌≡◌, ℕ, zero, suc, ◌<◌, Bool, true, false, List, length, map, Option, Some, None, option_and_then, slice_get, unwrap_or, Contains}
 use Rattle.dia_wire.specs.declared.Key.{Key}
 use Rattle.dia_wire.specs.Wire.{PlainAvp, SpellsAll, key_of}
 use Rattle.dia_book.specs.declared.DRule.{DRule}
 use Rattle.dia_book.specs.Dictionary.{Dictionary, DictEntry, entry_of, group_place}
 use Rattle.dia_terms.specs.declared.Levels.TheVariants as levels
+use Rattle.dia_terms.specs.declared.Sends.{Sends}
 use Rattle.dia_terms.specs.declared.Sends.TheVariants.{Listed}
 use Rattle.dia_terms.specs.declared.Unknown.{Unknown}
 use Rattle.dia_valid.specs.Rules.{rules_in}
@@ -40,9 +41,13 @@ HasLevel d c avps n level = (depth : ℕ) × IsBelow d depth c avps n level
 abbrev pub IsValidLevel : Dictionary → Unknown → ℕ → List PlainAvp → Type 0
 IsValidLevel d u n level = (bytes : List ℕ) × (c : ℕ) × (valid : IsValidOf d u levels.Any bytes c) × AreBytes bytes × HasLevel d c valid.avps n level
 
--- a message has it in which each AVP comes by a rule of its own
+-- a message has it that a side sends
+abbrev pub IsSentLevel : Dictionary → Sends → ℕ → List PlainAvp → Type 0
+IsSentLevel d who n level = (bytes : List ℕ) × (c : ℕ) × (sent : IsSent d who bytes c) × HasLevel d c sent.avps n level
+
+-- one in which each AVP comes by a rule of its own
 abbrev pub IsListedLevel : Dictionary → ℕ → List PlainAvp → Type 0
-IsListedLevel d n level = (bytes : List ℕ) × (c : ℕ) × (sent : IsSent d Listed bytes c) × HasLevel d c sent.avps n level
+IsListedLevel d n level = IsSentLevel d Listed n level
 
 abbrev pub HasKey : List PlainAvp → Key → Type 0
 HasKey level key = Contains (map key_of level) key
@@ -53,9 +58,22 @@ HasKey level key = Contains (map key_of level) key
 abbrev pub IsHeld : Dictionary → Unknown → Key → Type 0
 IsHeld d u key = (n : ℕ) × (level : List PlainAvp) × IsValidLevel d u n level × HasKey level key
 
+-- some message has one that a side sends
+abbrev pub IsHeldBySide : Dictionary → Sends → Key → Type 0
+IsHeldBySide d who key = (n : ℕ) × (level : List PlainAvp) × IsSentLevel d who n level × HasKey level key
+
 -- some message has one in which each AVP comes by a rule of its own
 abbrev pub IsHeldByRules : Dictionary → Key → Type 0
-IsHeldByRules d key = (n : ℕ) × (level : List PlainAvp) × IsListedLevel d n level × HasKey level key
+IsHeldByRules d key = IsHeldBySide d Listed key
+
+-- an AVP is said to be held, by its place
+abbrev pub held_at : List Bool → ℕ → Bool
+held_at held e = unwrap_or (slice_get held e) false
+
+-- of each AVP of the dictionary whether some message has it that a side sends; where the codes of commands can be in a header
+pub record AreHeld (d : Dictionary) (who : Sends) (held : List Bool) : Type 0 where
+  pub some : AreNumbered d → (e : ℕ) (entry : DictEntry) → slice_get d.entries e ≡ Some entry → held_at held e ≡ true → IsHeldBySide d who entry.key
+  pub none : (e : ℕ) (entry : DictEntry) → slice_get d.entries e ≡ Some entry → held_at held e ≡ false → ¬ IsHeldBySide d who entry.key
 
 -- some valid message has a level of the definition with an AVP of the key, or with one that no rule lists
 abbrev pub IsInLevel : Dictionary → Unknown → ℕ → Key → Type 0

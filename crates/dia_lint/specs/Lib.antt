@@ -3,6 +3,7 @@ pub mod BaseTable
 pub mod Costs
 pub mod Declarations
 pub mod Exact
+pub mod ExactLines
 pub mod Firsts
 pub mod Gathered
 pub mod GuidelineLines

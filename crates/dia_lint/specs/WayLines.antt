@@ -4,18 +4,18 @@ use Rattle.std.specs.List.{flat_map}
 use Rattle.std.specs.Option.{option_eq, option_map_or}
 use Rattle.dia_book.specs.declared.DRule.{DRule}
 use Rattle.dia_book.specs.Dictionary.{Dictionary, group_place, groups}
+use Rattle.dia_terms.specs.declared.Sends.{Sends}
 use Rattle.dia_terms.specs.declared.Sends.TheVariants.{Listed}
 use Rattle.dia_valid.specs.Rules.{rules_in}
 use Rattle.dia_breaking_levels.specs.LevelTests.{too_long}
 use Rattle.dia_breaking_shortest.specs.Lengths.{entry_length}
-use Rattle.dia_lint.specs.declared.finding.Finding.{Finding}
 use Rattle.dia_lint.specs.declared.finding.Subject.{Subject}
 use Rattle.dia_lint.specs.declared.finding.Subject.TheVariants.{Avp, Within}
 use Rattle.dia_lint.specs.declared.levels.LevelCost.{LevelCost}
 use Rattle.dia_lint.specs.declared.reached.Reached.{Reached}
 use Rattle.dia_lint.specs.declared.rule.Rule.{Rule}
 use Rattle.dia_lint.specs.declared.rule.Rule.TheVariants.{NeverHeld, NeverListed, NeverStands}
-use Rattle.dia_lint.specs.Gathered.{Adds, gathered, reports}
+use Rattle.dia_lint.specs.Gathered.{reports}
 use Rattle.dia_lint.specs.OwnRules.{named_by}
 use Rattle.dia_lint.specs.Ways.{Side, AreOfSide, IsReached, cost_of, has_in, listed_in, way_in, with_rule}
 
@@ -57,11 +57,10 @@ abbrev pub avp_part : Side → Reached → Reached → ℕ → List Reported
 avp_part s r listed e =
     if is_long_group s e then [] else if has_in r e then (if has_in listed e then [] else reports NeverListed (Avp e) ∷ []) else reports NeverHeld (Avp e) ∷ []
 
--- what messages have in which each AVP comes by a rule of its own
-abbrev pub IsListedReached : Dictionary → Reached → Type 0
-IsListedReached d r = (s : Side) × (s.book ≡ d) × (s.sends ≡ Listed) × AreOfSide s × IsReached s r
+-- what messages have that a side sends
+abbrev pub IsReachedBy : Dictionary → Sends → Reached → Type 0
+IsReachedBy d who r = (s : Side) × (s.book ≡ d) × (s.sends ≡ who) × AreOfSide s × IsReached s r
 
--- if there is a command
-pub data AddsUnreached (s : Side) (r : Reached) (old new : List Finding) : Type 0 where
-  Without_commands : (none : length s.book.commands ≡ 0) (same : Adds [] [] [] old new) → AddsUnreached s r old new
-  With_commands : (listed : Reached) (is_listed : IsListedReached s.book listed) (adds : Adds [] [] (gathered (avp_part s r listed) (length s.book.entries)) old new) → AddsUnreached s r old new
+-- those in which each AVP comes by a rule of its own
+abbrev pub IsListedReached : Dictionary → Reached → Type 0
+IsListedReached d r = IsReachedBy d Listed r

@@ -21,11 +21,12 @@ pub(crate) struct Lengths<'a, B: Book> {
 }
 
 impl<'a, B: Book> Lengths<'a, B> {
-    ghost use Rattle.std.specs.Prelude.{◌≡◌, IfOk};
+    ghost use Rattle.std.specs.Prelude.{◌≡◌, ◌≢◌, IfOk};
     ghost use Rattle.dia_breaking_shortest.specs.Lengths.{length_of};
     ghost use Rattle.dia_lint.specs.Costs.{AreLengths};
 
     pub fn new(alloc: Global, book: &'a B, sends: Sends) -> Result<Self, AllocError>
+        requires { sends ≢ Sends.Filled }
         ensures book { IfOk result (λ lengths. lengths.book.now ≡ book.now) }
         ensures sends { IfOk result (λ lengths. lengths.least.sends ≡ sends) }
         ensures lengths { IfOk result (λ lengths. AreLengths (B.meaning book.now) sends
@@ -57,6 +58,7 @@ fn others_of<B: Book>(alloc: Global, book: &B, least: &Least) -> Result<Vec<Key>
     match least.sends {
         Sends::Any => only(alloc, least.unknown),
         Sends::Known => in_order(alloc, book, least),
+        Sends::Filled => Ok(Vec::new(alloc)),
         Sends::Listed => Ok(Vec::new(alloc)),
     }
 }
@@ -109,6 +111,7 @@ impl<'a, B: Book> Costs for Lengths<'a, B> {
         match self.least.sends {
             Sends::Any => self.key(key),
             Sends::Known => self.key(key),
+            Sends::Filled => TOO_LONG,
             Sends::Listed => TOO_LONG,
         }
     }

@@ -1,15 +1,16 @@
 //! What no valid message has.
-ghost use Rattle.std.specs.Prelude.{◌≡◌, ◌<◌, nat_le, [], ◌∷◌, if◌then◌else◌, length, true, IfOk, IfSome, OnOk, option_to_list};
-ghost use Rattle.dia_book.specs.Dictionary.{definitions, groups};
-ghost use Rattle.dia_breaking_levels.specs.LevelTests.{too_long};
-ghost use Rattle.dia_breaking_shortest.specs.Lengths.{entry_length};
-ghost use Rattle.dia_lint.specs.Costs.{level_of, sender_of};
+ghost use Rattle.std.specs.Prelude.{◌≡◌, ◌<◌, ◌++◌, find, length, IfOk, OnOk, option_to_list};
+ghost use Rattle.dia_book.specs.Dictionary.{definitions};
+ghost use Rattle.dia_lint.specs.Costs.{sender_of};
 ghost use Rattle.dia_lint.specs.Exact.{AreAscending, AreOfMessages, NoLevelIsExact, NoMessageIsExact, OthersHaveAvps};
-ghost use Rattle.dia_lint.specs.Exact.{OthersHaveMessages, is_no_level, is_no_message, is_of_messages, reported};
-ghost use Rattle.dia_lint.specs.Gathered.{Adds, IsAside, gathered, long_command, long_commands, long_group, long_groups, ways_in};
+ghost use Rattle.dia_lint.specs.Exact.{OthersHaveMessages, is_no_level, is_no_message, reported};
+ghost use Rattle.dia_lint.specs.ExactLines.{AreExactLines, command_lines, definition_lines, group_lines, is_of, is_unmet};
+ghost use Rattle.dia_lint.specs.ExactLines.{level_lines, message_lines, rules_lines, stands_lines, unmet_by, unmet_in, why_never};
+ghost use Rattle.dia_lint.specs.Gathered.{gathered};
+ghost use Rattle.dia_lint.specs.Guidelines.{at_head};
 ghost use Rattle.dia_lint.specs.Held.{NeverHeldIsTrue, NeverListedIsTrue, NeverStandsIsTrue, NoOthersIsTrue};
 ghost use Rattle.dia_lint.specs.Held.{OthersAreHeld, OthersAreListed, OthersStand, OtherWildcardsStand};
-ghost use Rattle.dia_lint.specs.WayLines.{command_part, definition_part, group_part, rule_length, rules_part, stands_part};
+ghost use Rattle.dia_lint.specs.WayLines.{rule_length};
 ghost use Rattle.dia_lint.specs.Ways.{side_of};
 
 use crate::books::{command_at, group_of, rules_of};
@@ -33,6 +34,7 @@ pub fn exact_findings<B: Book>(
     book: &B,
     unknown: Unknown,
 ) -> Result<Vec<Finding>, AllocError>
+    ensures lines { IfOk result (λ found. AreExactLines (B.meaning book.now) unknown found.items) }
     ensures rules { IfOk result (λ found. AreOfMessages found.items) }
     ensures no_message { IfOk result (λ found. NoMessageIsExact (B.meaning book.now) unknown found.items) }
     ensures no_level { IfOk result (λ found. NoLevelIsExact (B.meaning book.now) unknown found.items) }
@@ -73,10 +75,8 @@ fn push_groups<B: Book>(
     lengths: &Lengths<'_, B>,
     reached: &Reached,
 ) -> Result<(), AllocError>
-    ensures { OnOk result (Adds [] (long_groups (B.meaning lengths.now.book.now) lengths.now.least.lengths.items
-        (length (B.meaning lengths.now.book.now).entries))
-        (gathered (group_part (side_of B.meaning lengths.now) reached.now) (length (B.meaning lengths.now.book.now).entries))
-        found.old.items found.new.items) }
+    ensures { OnOk result (found.new.items ≡ found.old.items ++ gathered (group_lines (side_of B.meaning lengths.now) reached.now)
+        (length (B.meaning lengths.now.book.now).entries)) }
 {
     for index in 0..lengths.book.entries() {
         push_group(found, lengths, reached, lengths.book.entry_at(index))?;
@@ -92,8 +92,7 @@ fn push_group<B: Book>(
     entry: Entry,
 ) -> Result<(), AllocError>
     requires { entry < length (B.meaning lengths.now.book.now).entries }
-    ensures { OnOk result (Adds [] (long_group (B.meaning lengths.now.book.now) lengths.now.least.lengths.items entry)
-        (group_part (side_of B.meaning lengths.now) reached.now entry) found.old.items found.new.items) }
+    ensures { OnOk result (found.new.items ≡ found.old.items ++ group_lines (side_of B.meaning lengths.now) reached.now entry) }
 {
     match group_of(lengths.book, entry) {
         Some(def) => {
@@ -107,11 +106,7 @@ fn push_group<B: Book>(
 /// The finding of a group of which no AVP fits.
 fn no_level<B: Book>(lengths: &Lengths<'_, B>, entry: Entry, def: DefId) -> Option<Finding>
     requires { def < length (definitions (B.meaning lengths.now.book.now)) }
-    ensures messages { reported is_no_message (option_to_list result) ≡ [] }
-    ensures levels { reported is_no_level (option_to_list result) ≡
-        (if nat_le too_long (entry_length lengths.now.least.lengths.items entry) then def ∷ [] else []) }
-    ensures ways { ways_in (option_to_list result) ≡ [] }
-    ensures rule { IfSome result (λ x. is_of_messages x.rule ≡ true) }
+    ensures { option_to_list result ≡ level_lines (side_of B.meaning lengths.now) entry def }
 {
     if has_no_level(lengths, entry) {
         Some(needs(lengths, def, Rule::NoLevel))
@@ -125,12 +120,8 @@ fn push_commands<B: Book>(
     lengths: &Lengths<'_, B>,
     reached: &Reached,
 ) -> Result<(), AllocError>
-    ensures { OnOk result (Adds (long_commands
-        (level_of (B.meaning lengths.now.book.now) lengths.now.least.sends lengths.now.least.lengths.items
-        lengths.now.others.items)
-        (length (groups (B.meaning lengths.now.book.now))) (length (B.meaning lengths.now.book.now).commands)) []
-        (gathered (command_part (side_of B.meaning lengths.now) reached.now) (length (B.meaning lengths.now.book.now).commands))
-        found.old.items found.new.items) }
+    ensures { OnOk result (found.new.items ≡ found.old.items ++ gathered (command_lines (side_of B.meaning lengths.now) reached.now)
+        (length (B.meaning lengths.now.book.now).commands)) }
 {
     for index in 0..lengths.book.commands() {
         push_command(found, lengths, reached, index)?;
@@ -146,11 +137,7 @@ fn push_command<B: Book>(
     index: usize,
 ) -> Result<(), AllocError>
     requires { index < length (B.meaning lengths.now.book.now).commands }
-    ensures { OnOk result (Adds (long_command
-        (level_of (B.meaning lengths.now.book.now) lengths.now.least.sends lengths.now.least.lengths.items
-        lengths.now.others.items)
-        (length (groups (B.meaning lengths.now.book.now))) index) []
-        (command_part (side_of B.meaning lengths.now) reached.now index) found.old.items found.new.items) }
+    ensures { OnOk result (found.new.items ≡ found.old.items ++ command_lines (side_of B.meaning lengths.now) reached.now index) }
 {
     let def = command_at(lengths.book, index);
     push(found, no_message(lengths, def))?;
@@ -165,13 +152,7 @@ fn push_command<B: Book>(
 /// The finding of a command without a valid message.
 fn no_message<B: Book>(lengths: &Lengths<'_, B>, def: DefId) -> Option<Finding>
     requires { def < length (definitions (B.meaning lengths.now.book.now)) }
-    ensures messages { reported is_no_message (option_to_list result) ≡ (if nat_le too_long
-        (level_of (B.meaning lengths.now.book.now) lengths.now.least.sends lengths.now.least.lengths.items
-        lengths.now.others.items def)
-        then def ∷ [] else []) }
-    ensures levels { reported is_no_level (option_to_list result) ≡ [] }
-    ensures ways { ways_in (option_to_list result) ≡ [] }
-    ensures rule { IfSome result (λ x. is_of_messages x.rule ≡ true) }
+    ensures { option_to_list result ≡ message_lines (side_of B.meaning lengths.now) def }
 {
     if LevelCost::of(lengths, def).base >= TOO_LONG {
         Some(needs(lengths, def, Rule::NoMessage))
@@ -183,32 +164,39 @@ fn no_message<B: Book>(lengths: &Lengths<'_, B>, def: DefId) -> Option<Finding>
 /// The finding of a definition whose least level no message has room for.
 fn needs<B: Book>(lengths: &Lengths<'_, B>, def: DefId, rule: Rule) -> Finding
     requires { def < length (definitions (B.meaning lengths.now.book.now)) }
-    ensures rule { result.rule ≡ rule }
-    ensures subject { result.subject ≡ Subject.Definition def }
+    ensures { result ≡ at_head def rule (unmet_in (side_of B.meaning lengths.now) def) }
 {
     Finding {
         rule,
         place: Place::Head(def),
         subject: Subject::Definition(def),
-        detail: first_unmet(lengths, def),
+        detail: why_unmet(lengths, def),
+    }
+}
+
+/// Why no message has room for a least level of a definition.
+fn why_unmet<B: Book>(lengths: &Lengths<'_, B>, def: DefId) -> Detail
+    requires { def < length (definitions (B.meaning lengths.now.book.now)) }
+    ensures { result ≡ unmet_in (side_of B.meaning lengths.now) def }
+{
+    let filler = LevelCost::of(lengths, def).filler;
+    let definition = lengths.book.def(def);
+    match first_unmet(lengths, filler, &definition.rules) {
+        Some(rule) => unmet_by(definition.head, &rule),
+        None => Detail::TooLong,
     }
 }
 
 /// The first rule whose least count no AVPs meet.
-fn first_unmet<B: Book>(lengths: &Lengths<'_, B>, def: DefId) -> Detail
-    requires { def < length (definitions (B.meaning lengths.now.book.now)) }
+fn first_unmet<B: Book>(lengths: &Lengths<'_, B>, filler: u64, rules: &[DRule]) -> Option<DRule>
+    ensures { result ≡ find (is_unmet (side_of B.meaning lengths.now) filler) rules.now }
 {
-    let filler = LevelCost::of(lengths, def).filler;
-    let definition = lengths.book.def(def);
-    for rule in &definition.rules {
-        if rule.min > 0 && length_of(lengths, filler, rule) >= TOO_LONG {
-            return unmet(definition.head, rule);
-        }
-    }
-    Detail::TooLong
+    rules.iter().copied().find(|rule| 0 < rule.min && TOO_LONG <= length_of(lengths, filler, rule))
 }
 
-fn unmet(head: DefHead, rule: &DRule) -> Detail {
+fn unmet_by(head: DefHead, rule: &DRule) -> Detail
+    ensures { result ≡ unmet_by head rule.now }
+{
     match rule.key {
         Some(key) if is_of(head, key) => Detail::NeedsItself,
         Some(key) => Detail::Needs(key),
@@ -217,10 +205,13 @@ fn unmet(head: DefHead, rule: &DRule) -> Detail {
 }
 
 /// Whether the definition is that of the key's group.
-fn is_of(head: DefHead, key: Key) -> bool {
+fn is_of(head: DefHead, key: Key) -> bool
+    ensures { result ≡ is_of head key }
+{
     match head {
         DefHead::Group(own) => own == key,
-        DefHead::Command { .. } | DefHead::Error { .. } => false,
+        DefHead::Command { .. } => false,
+        DefHead::Error { .. } => false,
     }
 }
 
@@ -242,7 +233,7 @@ fn push_reached<B: Book>(
     way: Option<u64>,
 ) -> Result<(), AllocError>
     requires { def < length (definitions (B.meaning lengths.now.book.now)) }
-    ensures { OnOk result (Adds [] [] (definition_part (side_of B.meaning lengths.now) def way) found.old.items found.new.items) }
+    ensures { OnOk result (found.new.items ≡ found.old.items ++ definition_lines (side_of B.meaning lengths.now) def way) }
 {
     match way {
         Some(way) => push_rules(found, lengths, def, way),
@@ -258,37 +249,29 @@ fn push_rules<B: Book>(
     way: u64,
 ) -> Result<(), AllocError>
     requires { def < length (definitions (B.meaning lengths.now.book.now)) }
-    ensures { OnOk result (Adds [] [] (rules_part (side_of B.meaning lengths.now) def way) found.old.items found.new.items) }
+    ensures { OnOk result (found.new.items ≡ found.old.items ++ rules_lines (side_of B.meaning lengths.now) def way) }
 {
     let cost = LevelCost::of(lengths, def);
     let rules = rules_of(lengths.book, def);
     for index in 0..rules.len() {
         push(
             found,
-            never_stands(
-                lengths,
-                &cost,
-                way,
-                Place::Rule(def, index),
-                def,
-                &rules[index],
-            ),
+            never_stands(lengths, &cost, way, def, index, &rules[index]),
         )?;
     }
     Ok(())
 }
 
-/// The finding of a rule of which no message has an AVP in levels of the definition.
+/// The finding of a rule, at a place of its definition, of which no message has an AVP in levels of the definition.
 fn never_stands<B: Book>(
     lengths: &Lengths<'_, B>,
     cost: &LevelCost,
     way: u64,
-    place: Place,
     def: DefId,
+    at: usize,
     rule: &DRule,
 ) -> Option<Finding>
-    ensures aside { IsAside result }
-    ensures ways { ways_in (option_to_list result) ≡ stands_part (side_of B.meaning lengths.now) cost.now def way rule.now }
+    ensures { option_to_list result ≡ stands_lines (side_of B.meaning lengths.now) cost.now def way at rule.now }
 {
     let length = length_of(lengths, cost.filler, rule);
     if rule.max == Some(0) || has_room(way, cost.with(rule, length)) {
@@ -296,16 +279,18 @@ fn never_stands<B: Book>(
     }
     Some(Finding {
         rule: Rule::NeverStands,
-        place,
+        place: Place::Rule(def, at),
         subject: Subject::Within(def, named(rule)),
         detail: why_never(rule, length),
     })
 }
 
 /// Why no message has an AVP of a rule, of which a shortest one has this length.
-fn why_never(rule: &DRule, length: u64) -> Detail {
+fn why_never(rule: &DRule, length: u64) -> Detail
+    ensures { result ≡ why_never rule.now length }
+{
     match rule.key {
-        Some(key) if length >= TOO_LONG => Detail::ThereIsNo(key),
+        Some(key) if TOO_LONG <= length => Detail::ThereIsNo(key),
         Some(_) => Detail::NoRoom,
         None => Detail::NoneLeft,
     }

@@ -54,6 +54,14 @@ impl Reached {
         self.avps.get(entry.index()).copied().unwrap_or(false)
     }
 
+    /// Of each entry whether a message has an AVP of it.
+    pub fn into_avps(self) -> Vec<bool>
+        ensures { result ≡ self.avps }
+    {
+        let Reached { avps, ways: _ } = self;
+        avps
+    }
+
     /// What a message takes at least around a level of the definition at a place: of an entry's group, or behind all entries of a
     /// command.
     pub fn way(&self, place: usize) -> Option<u64>

@@ -1,13 +1,15 @@
 //! What AVPs no valid message has.
-ghost use Rattle.std.specs.Prelude.{◌≡◌, ◌<◌, [], length, IfOk, OnOk, option_to_list};
-ghost use Rattle.dia_lint.specs.Gathered.{Adds, IsAside, gathered, ways_in};
-ghost use Rattle.dia_lint.specs.WayLines.{AddsUnreached, IsListedReached, avp_part, is_long_group};
+ghost use Rattle.std.specs.Prelude.{◌≡◌, ◌<◌, ◌++◌, length, OnOk, option_to_list};
+ghost use Rattle.dia_lint.specs.ExactLines.{AddsAvpLines, avp_lines, of_avp};
+ghost use Rattle.dia_lint.specs.Gathered.{gathered};
+ghost use Rattle.dia_lint.specs.WayLines.{is_long_group};
 ghost use Rattle.dia_lint.specs.Ways.{side_of};
 
 use crate::books::group_of;
 use crate::costs::Lengths;
 use crate::detail::Detail;
 use crate::finding::{Finding, Place, Subject, push};
+use crate::held::reached_by;
 use crate::levels::has_no_level;
 use crate::reached::Reached;
 use crate::rule::Rule;
@@ -22,21 +24,13 @@ pub(crate) fn push_unreached<B: Book>(
     lengths: &Lengths<'_, B>,
     reached: &Reached,
 ) -> Result<(), AllocError>
-    ensures { OnOk result (AddsUnreached (side_of B.meaning lengths.now) reached.now found.old.items found.new.items) }
+    ensures { OnOk result (AddsAvpLines (side_of B.meaning lengths.now) reached.now found.old.items found.new.items) }
 {
     if lengths.book.commands() == 0 {
         return Ok(());
     }
-    let listed = reached_by_rules(alloc, lengths.book)?;
+    let listed = reached_by(alloc, lengths.book, Sends::Listed)?;
     push_avps(found, lengths, reached, &listed)
-}
-
-/// What messages have in which each AVP comes by a rule of its own.
-fn reached_by_rules<B: Book>(alloc: Global, book: &B) -> Result<Reached, AllocError>
-    ensures { IfOk result (IsListedReached (B.meaning book.now)) }
-{
-    let lengths = Lengths::new(alloc, book, Sends::Listed)?;
-    Reached::of(alloc, &lengths)
 }
 
 /// Adds the AVPs that no message has, and those that messages have only where a wildcard lets them in.
@@ -46,8 +40,8 @@ fn push_avps<B: Book>(
     reached: &Reached,
     listed: &Reached,
 ) -> Result<(), AllocError>
-    ensures { OnOk result (Adds [] [] (gathered (avp_part (side_of B.meaning lengths.now) reached.now listed.now)
-        (length (B.meaning lengths.now.book.now).entries)) found.old.items found.new.items) }
+    ensures { OnOk result (found.new.items ≡ found.old.items ++ gathered (avp_lines (side_of B.meaning lengths.now) reached.now
+        listed.now) (length (B.meaning lengths.now.book.now).entries)) }
 {
     for index in 0..lengths.book.entries() {
         push(
@@ -66,9 +60,7 @@ fn avp_finding<B: Book>(
     entry: Entry,
 ) -> Option<Finding>
     requires { entry < length (B.meaning lengths.now.book.now).entries }
-    ensures aside { IsAside result }
-    ensures ways { ways_in (option_to_list result)
-        ≡ avp_part (side_of B.meaning lengths.now) reached.now listed.now entry }
+    ensures { option_to_list result ≡ avp_lines (side_of B.meaning lengths.now) reached.now listed.now entry }
 {
     if is_long_group(lengths, entry) {
         return None;
@@ -91,8 +83,7 @@ fn is_long_group<B: Book>(lengths: &Lengths<'_, B>, entry: Entry) -> bool
 }
 
 fn about_avp(entry: Entry, rule: Rule, detail: Detail) -> Finding
-    ensures rule { result.rule ≡ rule }
-    ensures subject { result.subject ≡ Subject.Avp entry }
+    ensures { result ≡ of_avp entry rule detail }
 {
     Finding {
         rule,

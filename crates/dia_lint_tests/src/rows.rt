@@ -91,10 +91,11 @@ fn answered(
 ) -> Vec<u8> {
     let asked = Asked {
         unknown,
-        only,
-        except: "",
+        only: if only.is_empty() { None } else { Some(only) },
+        except: None,
         json: false,
         file: "d",
+        list: "list",
     };
     let inputs = Inputs {
         first: Input::Bytes(dictionary),

@@ -4,7 +4,7 @@ use Rattle.std.specs.Prelude.{◌==◌, if◌then◌else◌, nat_lt, not}
 use Rattle.std.specs.List.{after_first, before_first, position_or_len}
 use Rattle.std.proofs.lemmas.List.{append-nil, length-drop}
 use Rattle.std.proofs.lemmas.Option.{none-some, same_Some}
-use Rattle.dia_lint_text.specs.Asking.{words_from, words_left}
+use Rattle.dia_lint_text.specs.Asking.{words_from, words_of}
 use Rattle.dia_lint_text.specs.Lists.{split_at}
 
 abbrev pub is_comma : ℕ → Bool
@@ -69,10 +69,10 @@ when_whole list e = by (nat_lt (position_or_len is_comma list) (length list)) re
 
 -- the words so far, and those that are left
 pub pushed_cut : (old : List (List ℕ)) (list word following : List ℕ) (rest : Option (List ℕ)) → rest ≡ Some list
-    → ◌≡◌ {A = Option (List ℕ × List ℕ)} (Some (word, following)) (split_at 44 list) → (old ++ word ∷ []) ++ words_from [] following ≡ old ++ words_left rest
+    → ◌≡◌ {A = Option (List ℕ × List ℕ)} (Some (word, following)) (split_at 44 list) → (old ++ word ∷ []) ++ words_from [] following ≡ old ++ words_of rest
 pushed_cut old list word following rest is cut =
-    append_assoc old (word ∷ []) (words_from [] following) ∙ ap (λ ws. old ++ ws) (sym ((when_cut list word following cut).0) ∙ sym (ap words_left is))
+    append_assoc old (word ∷ []) (words_from [] following) ∙ ap (λ ws. old ++ ws) (sym ((when_cut list word following cut).0) ∙ sym (ap words_of is))
 
 pub pushed_whole : (old : List (List ℕ)) (list : List ℕ) (rest : Option (List ℕ)) → rest ≡ Some list → ◌≡◌ {A = Option (List ℕ × List ℕ)} None (split_at 44 list)
-    → (old ++ list ∷ []) ++ [] ≡ old ++ words_left rest
-pushed_whole old list rest is whole = append-nil (old ++ list ∷ []) ∙ ap (λ ws. old ++ ws) (sym (when_whole list whole) ∙ sym (ap words_left is))
+    → (old ++ list ∷ []) ++ [] ≡ old ++ words_of rest
+pushed_whole old list rest is whole = append-nil (old ++ list ∷ []) ∙ ap (λ ws. old ++ ws) (sym (when_whole list whole) ∙ sym (ap words_of is))

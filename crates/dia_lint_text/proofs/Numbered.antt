@@ -1,15 +1,15 @@
 -- The code and the application of each command of a text can be in a header.
-use Rattle.std.proofs.Common.{◌≡◌, ℕ, zero, suc, ◌+◌, ◌^◌, ◌<◌, ◌≤◌, List, [], ◌∷◌, Option, Some, None, sym, ap, subst, ◌∙◌, arith, inl, inr}
+use Rattle.std.proofs.Common.{◌≡◌, ℕ, zero, suc, ◌+◌, ◌^◌, ◌<◌, ◌≤◌, List, [], ◌∷◌, Option, Some, None, subst, ◌∙◌, arith}
 use Rattle.std.specs.Prelude.{IfSome, slice_get}
 use Rattle.std.proofs.lemmas.Option.{none-some, same_Some}
 use Rattle.dia_ccf.specs.declared.Head.{Head}
 use Rattle.dia_ccf.specs.declared.Head.TheVariants.{Group, Command, Error}
-use Rattle.dia_ccf.specs.Grammar.{Derives, Item, Declaration, Definition, Tokens, application, command_of_head, each, head, item, item_command}
+use Rattle.dia_ccf.specs.Grammar.{Item, Declaration, Definition, Tokens, application, command_of_head, each, head, item, item_command}
 use Rattle.dia_ccf.specs.Plain.{PlainDef, PlainSource}
 use Rattle.dia_ccf.specs.Tokens.{Token}
 use Rattle.dia_book.specs.Dictionary.{Dictionary, PlainDefinition}
 use Rattle.dia_book.proofs.Members.{at_filter_map, at_map}
-use Rattle.dia_dict.specs.Resolution.{definition_of, head_of, resolved}
+use Rattle.dia_dict.specs.Resolution.{definition_of, head_of}
 use Rattle.dia_io.specs.declared.Input.{Input}
 use Rattle.dia_run.specs.Texts.{IsDictionaryText}
 use Rattle.dia_lint.specs.Exact.{AreNumbered, IsNumbered}

@@ -1,6 +1,7 @@
 -- Which rules are asked for.
 use Rattle.std.specs.Prelude.{ℕ, ◌==◌, ◌&&◌, ◌||◌, not, Bool, true, false, if◌then◌else◌, List, [], ◌∷◌, ◌++◌, find, Option, Some, None, slice_get, unwrap_or}
 use Rattle.std.specs.List.{list_any}
+use Rattle.std.specs.Option.{option_copied}
 use Rattle.dia_terms.specs.declared.Unknown.{Unknown}
 use Rattle.dia_terms.specs.Names.{same_bytes}
 use Rattle.dia_lint.specs.Words.{names_rule, rule_number, rules, set_of, set_word}
@@ -12,28 +13,23 @@ use Rattle.dia_lint_text.specs.declared.asked.Asked.{Asked}
 -- what is asked: the policy, the words of `--only` and `--except`, whether lines are JSON objects, and the word for the dictionary
 pub record Question : Type 0 where
   pub unknown : Unknown
-  pub only : List ℕ
-  pub except : List ℕ
+  pub only : Option (List ℕ)
+  pub except : Option (List ℕ)
   pub json : Bool
   pub file : List ℕ
 
 abbrev pub question : Asked → Question
-question a = record { unknown = a.unknown; only = a.only.now; except = a.except.now; json = a.json; file = a.file.now }
+question a = record { unknown = a.unknown; only = option_copied a.only; except = option_copied a.except; json = a.json; file = a.file.now }
 
 -- the words of a text from the rest of one on, with commas (44) between them
 abbrev pub words_from : List ℕ → List ℕ → List (List ℕ)
 words_from word [] = word ∷ []
 words_from word (c ∷ cs) = if c == 44 then word ∷ words_from [] cs else words_from (word ++ c ∷ []) cs
 
--- those of an option: an empty text has none
-abbrev pub words_of : List ℕ → List (List ℕ)
-words_of [] = []
-words_of (c ∷ cs) = words_from [] (c ∷ cs)
-
--- those that are left, if a rest is
-abbrev pub words_left : Option (List ℕ) → List (List ℕ)
-words_left None = []
-words_left (Some rest) = words_from [] rest
+-- those of a text, if there is one
+abbrev pub words_of : Option (List ℕ) → List (List ℕ)
+words_of None = []
+words_of (Some text) = words_from [] text
 
 -- the word is that of the rule, or that of its set
 abbrev pub chooses : Rule → List ℕ → Bool
@@ -59,6 +55,10 @@ is_chosen only except r = is_wanted only r && not (list_any (chooses r) except)
 -- the rule is asked for
 abbrev pub is_asked : Question → Rule → Bool
 is_asked q r = is_chosen (words_of q.only) (words_of q.except) r
+
+-- some rule is
+abbrev pub asks : Question → Bool
+asks q = list_any (is_asked q) rules
 
 -- the first word that names no rule
 abbrev pub stranger : Question → Option (List ℕ)

@@ -14,9 +14,11 @@ use Rattle.dia_terms.specs.declared.Unknown.{Unknown}
 use Rattle.dia_report.specs.declared.bad_input.BadInput.{BadInput}
 use Rattle.dia_report.specs.Refusals.{bad_input_text}
 use Rattle.dia_run.specs.RefusedDictionaries.{RefusesFirst}
-use Rattle.dia_run.specs.Texts.{line, IsDictionaryText, IsPlacedIn, IsSourceText}
-use Rattle.dia_refused_json.specs.Refusals.{bad_input_json, text_of}
+use Rattle.dia_run.specs.Texts.{IsDictionaryText, IsPlacedIn, IsSourceText}
+use Rattle.dia_refused_json.specs.Recording.{refused_text}
+use Rattle.dia_refused_json.specs.Refusals.{text_of}
 use Rattle.dia_lint.specs.Exact.{AreAscending, AreNumbered, AreOf, AreOfMessages, NoLevelIsExact, NoMessageIsExact, OthersHaveAvps, OthersHaveMessages, is_no_level, is_no_message, reported}
+use Rattle.dia_lint.specs.ExactLines.{AreExactLines}
 use Rattle.dia_lint.specs.GuidelineLines.{guideline_lines}
 use Rattle.dia_lint.specs.Held.{NeverHeldIsTrue, NeverListedIsTrue, NeverStandsIsTrue, NoOthersIsTrue, OthersAreHeld, OthersAreListed, OthersStand, OtherWildcardsStand}
 use Rattle.dia_lint.specs.OwnRules.{says_nothing_lines}
@@ -24,7 +26,7 @@ use Rattle.dia_lint.specs.SameCommands.{AreSameCommands}
 use Rattle.dia_lint.specs.TwiceListed.{AreTwiceListed}
 use Rattle.dia_lint.specs.declared.finding.Finding.{Finding}
 use Rattle.dia_lint.specs.declared.rule.Rule.TheVariants as rule
-use Rattle.dia_lint_text.specs.Asking.{Question, is_asked, stranger}
+use Rattle.dia_lint_text.specs.Asking.{asks, is_asked, Question, stranger}
 use Rattle.dia_lint_text.specs.Lists.{IsListText, IsNoListText, bad_list_json, bad_list_text}
 use Rattle.dia_lint_text.specs.Rows.{AreInOrder, AreSorted, PlainRow, asked_rows}
 use Rattle.dia_lint_text.specs.Lines.{accepted_of, ending, exit_of, left_of, line_of, stale_of}
@@ -48,6 +50,7 @@ pub record AreFindings (d : Dictionary) (u : Unknown) (found : List Finding) : T
   pub others : List Finding
   pub all : found ≡ exact ++ others
   pub are_others : AreOthers d others
+  pub lines : AreExactLines d u exact
   pub rules : AreOfMessages exact
   pub no_message : NoMessageIsExact d u exact
   pub no_level : NoLevelIsExact d u exact
@@ -71,10 +74,10 @@ abbrev pub no_rule_text : Bool → List ℕ → List ℕ
 no_rule_text true word = codes "{\"error\":\"lint\",\"kind\":\"no rule\",\"name\":" ++ quoted word ++ codes "}\n"
 no_rule_text false word = codes "lint: no rule " ++ word ++ codes "\n"
 
--- the line of a dictionary that is refused
-abbrev pub no_dictionary_text : Bool → Input → BadInput → List ℕ
-no_dictionary_text true input bad = bad_input_json input bad
-no_dictionary_text false input bad = line (bad_input_text bad)
+-- the line where no rule is asked for
+abbrev pub unasked_text : Bool → List ℕ
+unasked_text true = codes "{\"error\":\"lint\",\"kind\":\"no rule\"}\n"
+unasked_text false = codes "lint: no rule\n"
 
 -- the line of a list that is refused, by its text
 abbrev pub bad_text : Bool → List ℕ → BadList → List ℕ
@@ -97,13 +100,14 @@ pub record IsListing (q : Question) (d : Dictionary) (source : Source) (text : L
       ++ ending q.json (map (λ row. row.rule) (left_of list found rows)) (accepted_of list found rows) (stale_of list found rows)
   pub exit_is : exit ≡ exit_of (map (λ row. row.rule) (left_of list found rows)) (stale_of list found rows)
 
--- the findings are listed, by the lines and columns of the dictionary's text, or a word names no rule, or the dictionary or the list is refused
+-- the findings are listed, by the lines and columns of the dictionary's text; or a word names no rule, no rule is left, or the dictionary or the list is refused
 pub data IsLintOutcome (q : Question) (inputs : Inputs) (written : List ℕ) (exit : Exit) : Type 0 where
-  listed : (source : Source) (d : Dictionary) (found : List Finding) (list : List PlainEntry) → stranger q ≡ None
+  listed : (source : Source) (d : Dictionary) (found : List Finding) (list : List PlainEntry) → stranger q ≡ None → asks q ≡ true
       → IsSourceText inputs.first (plain_source source) → IsPlacedIn inputs.first source → IsDictionaryText inputs.first d → AreNumbered d → AreFindings d q.unknown found
       → IsListText (is_asked q) inputs.table list → IsListing q d source (text_of inputs.first) found list written exit → IsLintOutcome q inputs written exit
   no_rule : (word : List ℕ) → stranger q ≡ Some word → written ≡ no_rule_text q.json word → exit ≡ exits.Bad → IsLintOutcome q inputs written exit
-  no_dictionary : (bad : BadInput) → stranger q ≡ None → RefusesFirst inputs (bad_input_text bad)
-      → written ≡ no_dictionary_text q.json inputs.first bad → exit ≡ exits.Bad → IsLintOutcome q inputs written exit
-  no_list : (d : Dictionary) (bad : BadList) → stranger q ≡ None → IsDictionaryText inputs.first d → IsNoListText inputs.table bad
+  nothing_asked : stranger q ≡ None → asks q ≡ false → written ≡ unasked_text q.json → exit ≡ exits.Bad → IsLintOutcome q inputs written exit
+  no_dictionary : (bad : BadInput) → stranger q ≡ None → asks q ≡ true → RefusesFirst inputs (bad_input_text bad)
+      → written ≡ refused_text q.json inputs.first bad → exit ≡ exits.Bad → IsLintOutcome q inputs written exit
+  no_list : (d : Dictionary) (bad : BadList) → stranger q ≡ None → asks q ≡ true → IsDictionaryText inputs.first d → IsNoListText inputs.table bad
       → written ≡ no_list_text q.json inputs.table bad → exit ≡ exits.Bad → IsLintOutcome q inputs written exit

@@ -18,9 +18,10 @@ use dia_io::Input;
 use dia_lint::Rule;
 use std::alloc::{AllocError, Global};
 use std::fmt;
+use thiserror::Error;
 
 /// Why a text is no list of accepted lines.
-#[derive(Clone, Copy)]
+#[derive(Clone, Copy, Debug, Error)]
 pub(crate) enum BadList {
     /// More bytes than the text of a list may have.
     TooLong,

@@ -5,7 +5,7 @@ ghost use Rattle.std.specs.Prelude.{length, map, not, ◌<◌};
 ghost use Rattle.std.specs.List.{list_any};
 ghost use Rattle.std.specs.Option.{option_copied, option_map};
 ghost use Rattle.dia_lint.specs.Words.{rules};
-ghost use Rattle.dia_lint_text.specs.Asking.{chooses, is_chosen, is_strange, is_wanted, words_left, words_of};
+ghost use Rattle.dia_lint_text.specs.Asking.{chooses, is_chosen, is_strange, is_wanted, words_from, words_of};
 ghost use Rattle.dia_lint_text.specs.Lists.{split_at};
 
 use crate::asked::Asked;
@@ -21,6 +21,7 @@ pub(crate) struct Choice {
 
 impl Choice {
     ghost use Rattle.std.specs.Prelude.{◌≡◌, IfErr, IfOk, None, Some, map};
+    ghost use Rattle.std.specs.List.{list_any};
     ghost use Rattle.dia_lint.specs.Words.{rules};
     ghost use Rattle.dia_lint_text.specs.Asking.{has_in, is_asked, question, stranger};
 
@@ -41,6 +42,13 @@ impl Choice {
         }
     }
 
+    /// Whether some rule is asked for.
+    pub fn has_any(&self) -> bool
+        ensures { result ≡ list_any (λ chosen. chosen) self.now.chosen.items }
+    {
+        self.chosen.iter().any(|chosen| *chosen)
+    }
+
     /// Whether the rule is asked for.
     pub fn has(&self, rule: Rule) -> bool
         ensures { result ≡ has_in self.now.chosen.items rule }
@@ -52,24 +60,27 @@ impl Choice {
     }
 }
 
-/// The words of a list with commas between them. An empty text has none.
-fn words_of<'a>(alloc: Global, text: &'a str) -> Result<Vec<&'a str>, AllocError>
-    ensures { IfOk result (λ words. map (λ word. word.now) words.items ≡ words_of text.now) }
+/// The words of a list, if there is one.
+fn words_of<'a>(alloc: Global, text: Option<&'a str>) -> Result<Vec<&'a str>, AllocError>
+    ensures { IfOk result (λ words. map (λ word. word.now) words.items ≡ words_of (option_copied text.entry)) }
+{
+    match text {
+        Some(text) => words_in(alloc, text),
+        None => Ok(Vec::new(alloc)),
+    }
+}
+
+/// The words of a list with commas between them.
+fn words_in<'a>(alloc: Global, text: &'a str) -> Result<Vec<&'a str>, AllocError>
+    ensures { IfOk result (λ words. map (λ word. word.now) words.items ≡ words_from [] text.now) }
 {
     let mut words = Vec::new(alloc);
-    let mut rest = unless_empty(text);
+    let mut rest = Some(text);
     for _ in 0..text.len() {
         rest = push_word(&mut words, rest)?;
     }
     push_last(&mut words, rest)?;
     Ok(words)
-}
-
-fn unless_empty(text: &str) -> Option<&str>
-    ensures words { words_left (option_copied result) ≡ words_of text.now }
-    ensures text { IfSome result (λ r. r.now ≡ text.now) }
-{
-    if text.len() == 0 { None } else { Some(text) }
 }
 
 /// Adds the first word of the rest of a list, and returns what follows it.
@@ -78,8 +89,8 @@ fn push_word<'a>(
     rest: Option<&'a str>,
 ) -> Result<Option<&'a str>, AllocError>
     ensures added { IfOk result (λ following. map (λ word. word.now) words.new.items
-        ++ words_left (option_map (λ r. r.now) following)
-        ≡ map (λ word. word.now) words.old.items ++ words_left (option_copied rest.entry)) }
+        ++ words_of (option_map (λ r. r.now) following)
+        ≡ map (λ word. word.now) words.old.items ++ words_of (option_copied rest.entry)) }
     ensures shorter { IfOk result (λ following. IfSome following (λ f. IfSome rest.entry (λ r. length f.now < length r.now))) }
     ensures ended { IfOk result (λ following. rest.entry ≡ None → following ≡ None) }
 {
@@ -108,7 +119,7 @@ fn split_at_comma(text: &str) -> Option<(&str, &str)>
 fn push_last<'a>(words: &mut Vec<&'a str>, rest: Option<&'a str>) -> Result<(), AllocError>
     requires { IfSome rest (λ r. r.now ≡ []) }
     ensures { OnOk result (map (λ word. word.now) words.new.items
-        ≡ map (λ word. word.now) words.old.items ++ words_left (option_copied rest.entry)) }
+        ≡ map (λ word. word.now) words.old.items ++ words_of (option_copied rest.entry)) }
 {
     if let Some(word) = rest {
         words.push(word)?;

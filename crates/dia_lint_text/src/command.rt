@@ -1,6 +1,6 @@
 //! The command, from its inputs to what is written.
 
-ghost use Rattle.std.specs.Prelude.{◌≡◌, ◌↔◌, ℕ, List, Err, IfOk, IsTrue, None, Some, map, string_bytes};
+ghost use Rattle.std.specs.Prelude.{◌≡◌, ◌↔◌, ℕ, List, Err, IfOk, IsTrue, None, Some, map, string_bytes, true};
 ghost use Rattle.std.specs.Io.KnownBytes.{Appends};
 ghost use Rattle.std.specs.Str.{IsUtf8};
 ghost use Rattle.dia_accepted.specs.Accepted.{plain_entry};
@@ -9,9 +9,9 @@ ghost use Rattle.dia_io.specs.declared.Exit.{Exit as AnyExit};
 ghost use Rattle.dia_io.specs.Writing.{AppendsFront};
 ghost use Rattle.dia_lint.specs.Words.{rules};
 ghost use Rattle.dia_lint.specs.declared.finding.Finding.{Finding as AnyFinding};
-ghost use Rattle.dia_lint_text.specs.Asking.{is_asked, question, stranger};
+ghost use Rattle.dia_lint_text.specs.Asking.{asks, is_asked, question, stranger};
 ghost use Rattle.dia_lint_text.specs.Lines.{exit_of};
-ghost use Rattle.dia_lint_text.specs.Outcome.{AreFindings, AreOthers, IsLintOutcome, IsListing, bad_text, no_dictionary_text};
+ghost use Rattle.dia_lint_text.specs.Outcome.{AreFindings, AreOthers, IsLintOutcome, IsListing, bad_text, unasked_text};
 ghost use Rattle.dia_lint_text.specs.Outcome.{no_list_text, no_rule_text};
 ghost use Rattle.dia_refused_json.specs.Refusals.{text_of};
 ghost use Rattle.dia_run.specs.Texts.{IsDictionaryText, IsPlacedIn, IsSourceText};
@@ -31,8 +31,8 @@ use dia_io::{Exit, Input, Inputs, RunFault, Sink, put_all};
 use dia_lint::{
     Finding, command_findings, exact_findings, guideline_findings, range_findings, rule_findings,
 };
-use dia_refused_json::{bad_input_line, text_of};
-use dia_report::{Answered, BadInput, ReadBook, Refused, Report, Reported};
+use dia_refused_json::{refuse_as, text_of};
+use dia_report::{Answered, ReadBook, Refused, Report, Reported};
 use dia_run::read_dictionary;
 use dia_terms::Unknown;
 use std::alloc::{AllocError, Global};
@@ -91,9 +91,29 @@ fn by_choice(
     requires known { stranger (question asked.now) ≡ None }
     ensures { IfOk result (λ a. IsLintOutcome (question asked.now) inputs.now (string_bytes a.text) a.exit) }
 {
+    if choice.has_any() {
+        by_rules(alloc, asked, inputs, notes, choice)
+    } else {
+        nothing_asked(alloc, asked.json)
+    }
+}
+
+/// The answer where some rule is asked for.
+fn by_rules(
+    alloc: Global,
+    asked: &Asked<'_>,
+    inputs: &Inputs,
+    notes: &mut String,
+    choice: &Choice,
+) -> Result<Answered, AllocError>
+    requires chosen { choice.now.chosen.items ≡ map (is_asked (question asked.now)) rules }
+    requires known { stranger (question asked.now) ≡ None }
+    requires some { asks (question asked.now) ≡ true }
+    ensures { IfOk result (λ a. IsLintOutcome (question asked.now) inputs.now (string_bytes a.text) a.exit) }
+{
     match read_dictionary(alloc, 1, &inputs.first) {
         Ok(read) => over_book(alloc, asked, inputs, notes, choice, &read),
-        Err(Refused::Bad(bad)) => no_dictionary(alloc, asked.json, &inputs.first, bad),
+        Err(Refused::Bad(bad)) => refuse_as(alloc, asked.json, &inputs.first, bad),
         Err(Refused::NoMemory) => Err(AllocError),
     }
 }
@@ -109,6 +129,7 @@ fn over_book(
 ) -> Result<Answered, AllocError>
     requires chosen { choice.now.chosen.items ≡ map (is_asked (question asked.now)) rules }
     requires known { stranger (question asked.now) ≡ None }
+    requires some { asks (question asked.now) ≡ true }
     requires source { IsSourceText inputs.now.first (plain_source read.now.source) }
     requires placed { IsPlacedIn inputs.now.first read.now.source }
     requires book { IsDictionaryText inputs.now.first (⟦<IndexedBook as Book>⟧.meaning read.now.book) }
@@ -198,6 +219,25 @@ fn listed(listing: Listing) -> Answered
     }
 }
 
+/// The answer where no rule is asked for.
+fn nothing_asked(alloc: Global, json: bool) -> Result<Answered, AllocError>
+    ensures text { IfOk result (λ a. string_bytes a.text ≡ unasked_text json) }
+    ensures exit { IfOk result (λ a. a.exit ≡ Exit.Bad) }
+{
+    let text = String::from_str(alloc, unasked_line(json))?;
+    Ok(bad(text))
+}
+
+fn unasked_line(json: bool) -> &'static str
+    ensures { result.now ≡ unasked_text json }
+{
+    if json {
+        "{\"error\":\"lint\",\"kind\":\"no rule\"}\n"
+    } else {
+        "lint: no rule\n"
+    }
+}
+
 /// The line of a word that names no rule.
 fn no_rule(
     alloc: Global,
@@ -211,7 +251,7 @@ fn no_rule(
 {
     let text = no_rule_text(alloc, asked.json, word)?;
     explain_words(alloc, notes);
-    Ok(bad(text, Report::Done))
+    Ok(bad(text))
 }
 
 fn no_rule_text(alloc: Global, json: bool, word: &str) -> Result<String, AllocError>
@@ -237,8 +277,8 @@ fn no_list(
 {
     let list = text_of(&inputs.table);
     let text = no_list_text(alloc, asked.json, list, why)?;
-    explain_list(alloc, notes, list, why);
-    Ok(bad(text, Report::Done))
+    explain_list(alloc, notes, asked.list, list, why);
+    Ok(bad(text))
 }
 
 fn no_list_text(alloc: Global, json: bool, list: &[u8], why: BadList) -> Result<String, AllocError>
@@ -251,31 +291,13 @@ fn no_list_text(alloc: Global, json: bool, list: &[u8], why: BadList) -> Result<
     }
 }
 
-/// The line of a dictionary that is refused.
-fn no_dictionary(
-    alloc: Global,
-    json: bool,
-    input: &Input,
-    why: BadInput,
-) -> Result<Answered, AllocError>
-    ensures text { IfOk result (λ a. string_bytes a.text ≡ no_dictionary_text json input.now why) }
-    ensures exit { IfOk result (λ a. a.exit ≡ Exit.Bad) }
-{
-    let text = if json {
-        bad_input_line(alloc, input, &why)?
-    } else {
-        format!(in alloc; "{why}\n")?
-    };
-    Ok(bad(text, Report::Refused(why)))
-}
-
-fn bad(text: String, report: Report) -> Answered
+fn bad(text: String) -> Answered
     ensures text { result.text ≡ text }
     ensures exit { result.exit ≡ Exit.Bad }
 {
     Answered {
         text,
         exit: Exit::Bad,
-        report,
+        report: Report::Done,
     }
 }

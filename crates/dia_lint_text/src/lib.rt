@@ -7,6 +7,7 @@ mod choice;
 mod command;
 mod cursor;
 mod details;
+mod endings;
 mod form;
 mod listing;
 mod notes;

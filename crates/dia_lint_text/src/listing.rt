@@ -1,6 +1,6 @@
 //! The lines of an answer.
-ghost use Rattle.std.specs.Prelude.{◌≡◌, ◌++◌, ◌∷◌, [], Bool, List, ℕ, IfOk, OnOk, codes, count_by, filter};
-ghost use Rattle.std.specs.Prelude.{flat_map, if◌then◌else◌, map, nat_eq, not, slice_get, string_bytes};
+ghost use Rattle.std.specs.Prelude.{◌≡◌, ◌++◌, ◌∷◌, [], List, ℕ, IfOk, OnOk, codes};
+ghost use Rattle.std.specs.Prelude.{flat_map, if◌then◌else◌, map, slice_get, string_bytes};
 ghost use Rattle.std.specs.List.{list_any};
 ghost use Rattle.std.specs.Option.{option_copied, option_map_or};
 ghost use Rattle.std.specs.Fmt.{decimal};
@@ -8,27 +8,25 @@ ghost use Rattle.json.specs.Print.{quoted};
 ghost use Rattle.dia_accepted.specs.Accepted.{PlainEntry, PlainRecorded, accepts, plain_entry};
 ghost use Rattle.dia_accepted.specs.Seen.{HasSeen};
 ghost use Rattle.dia_explain_places.specs.Places.{column_at, line_at};
-ghost use Rattle.dia_lint.specs.declared.finding.Finding.{Finding as AnyFinding};
-ghost use Rattle.dia_lint.specs.Words.{rule_number, rule_word};
 ghost use Rattle.dia_lint_text.specs.Asking.{question};
 ghost use Rattle.dia_lint_text.specs.Cursors.{IsCursor};
-ghost use Rattle.dia_lint_text.specs.Lines.{counts_json, ending, exit_of, is_accepted, left_of, line_by, line_of};
-ghost use Rattle.dia_lint_text.specs.Lines.{nothing_text, recorded_of, recorded_by, rules_among};
-ghost use Rattle.dia_lint_text.specs.Lines.{stale_line, stale_of, strings, another, words_by};
+ghost use Rattle.dia_lint_text.specs.Lines.{ending, is_accepted, left_of, line_by, line_of};
+ghost use Rattle.dia_lint_text.specs.Lines.{recorded_of, recorded_by};
+ghost use Rattle.dia_lint_text.specs.Lines.{words_by};
 ghost use Rattle.dia_lint_text.specs.Listed.{IsListed};
 ghost use Rattle.dia_lint_text.specs.Rows.{plain_row};
 
 use crate::accepted::counted;
 use crate::asked::Asked;
 use crate::cursor::Cursor;
+use crate::endings::push_ending;
 use crate::objects::push_object;
 use crate::parts::Parts;
 use crate::sorting::Row;
 use dia_accepted::{Accepting, Entry};
 use dia_book::Book;
 use dia_explain_places::Place;
-use dia_lint::{Finding, Rule, all_rules};
-use dia_refused_json::quoted;
+use dia_lint::Finding;
 use std::alloc::{AllocError, Global};
 
 /// A line that is written, by the place of its text.
@@ -283,128 +281,4 @@ fn ended(
         accepted,
         stale,
     })
-}
-
-fn push_ending(
-    alloc: Global,
-    out: &mut String,
-    json: bool,
-    shown: &[Shown],
-    accepted: usize,
-    stale: &[Entry],
-) -> Result<(), AllocError>
-    ensures { OnOk result (string_bytes out.new ≡ string_bytes out.old
-        ++ ending json (map (λ s. s.rule) shown.now) accepted (map plain_entry stale.now)) }
-{
-    if json {
-        push_counts(alloc, out, shown, accepted, stale)
-    } else if shown.is_empty() && stale.is_empty() {
-        out.push_str(nothing(accepted))
-    } else {
-        push_stale(out, stale)
-    }
-}
-
-/// The line where no other is written.
-fn nothing(accepted: usize) -> &'static str
-    ensures { result.now ≡ nothing_text accepted }
-{
-    if accepted == 0 {
-        "nothing found\n"
-    } else {
-        "nothing else found\n"
-    }
-}
-
-fn push_stale(out: &mut String, stale: &[Entry]) -> Result<(), AllocError>
-    ensures { OnOk result (string_bytes out.new ≡ string_bytes out.old ++ flat_map stale_line (map plain_entry stale.now)) }
-{
-    for entry in stale {
-        push_stale_line(out, entry.words.as_str())?;
-    }
-    Ok(())
-}
-
-fn push_stale_line(out: &mut String, words: &str) -> Result<(), AllocError>
-    ensures { OnOk result (string_bytes out.new ≡ string_bytes out.old ++ (codes "stale: " ++ words.now ++ codes "\n")) }
-{
-    write!(out, "stale: {words}\n")
-}
-
-/// Adds the object that counts.
-fn push_counts(
-    alloc: Global,
-    out: &mut String,
-    shown: &[Shown],
-    accepted: usize,
-    stale: &[Entry],
-) -> Result<(), AllocError>
-    ensures { OnOk result (string_bytes out.new ≡ string_bytes out.old
-        ++ counts_json (map (λ s. s.rule) shown.now) accepted (map plain_entry stale.now)) }
-{
-    push_numbers(out, shown.len(), rules_among(shown), accepted)?;
-    push_array(alloc, out, stale)?;
-    out.push_str("]}\n")
-}
-
-fn push_numbers(
-    out: &mut String,
-    lines: usize,
-    rules: usize,
-    accepted: usize,
-) -> Result<(), AllocError>
-    ensures { OnOk result (string_bytes out.new ≡ string_bytes out.old ++ (codes "{\"lines\":" ++ decimal lines
-        ++ codes ",\"rules\":" ++ decimal rules ++ codes ",\"accepted\":" ++ decimal accepted ++ codes ",\"stale\":[")) }
-{
-    write!(
-        out,
-        "{{\"lines\":{lines},\"rules\":{rules},\"accepted\":{accepted},\"stale\":["
-    )
-}
-
-/// How many rules the lines have.
-pub(crate) fn rules_among(shown: &[Shown]) -> usize
-    ensures { result ≡ rules_among (map (λ s. s.rule) shown.now) }
-{
-    all_rules()
-        .iter()
-        .filter(|rule| has_rule(shown, **rule))
-        .count()
-}
-
-fn has_rule(shown: &[Shown], rule: Rule) -> bool
-    ensures { result ≡ list_any (nat_eq (rule_number rule)) (map (λ s. s.rule) shown.now) }
-{
-    let number = rule.number();
-    shown.iter().any(|line| number == line.rule)
-}
-
-/// Adds the words of entries as strings, with commas between them.
-fn push_array(alloc: Global, out: &mut String, entries: &[Entry]) -> Result<(), AllocError>
-    ensures { OnOk result (string_bytes out.new ≡ string_bytes out.old
-        ++ strings (map (λ e. e.words) (map plain_entry entries.now))) }
-{
-    match entries {
-        [] => Ok(()),
-        [first, others @ ..] => {
-            out.push_str(&quoted(alloc, &first.words)?)?;
-            push_others(alloc, out, others)
-        }
-    }
-}
-
-fn push_others(alloc: Global, out: &mut String, entries: &[Entry]) -> Result<(), AllocError>
-    ensures { OnOk result (string_bytes out.new ≡ string_bytes out.old
-        ++ flat_map another (map (λ e. e.words) (map plain_entry entries.now))) }
-{
-    for entry in entries {
-        push_other(out, &quoted(alloc, &entry.words)?)?;
-    }
-    Ok(())
-}
-
-fn push_other(out: &mut String, string: &str) -> Result<(), AllocError>
-    ensures { OnOk result (string_bytes out.new ≡ string_bytes out.old ++ (codes "," ++ string.now)) }
-{
-    write!(out, ",{string}")
 }

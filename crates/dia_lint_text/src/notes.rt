@@ -1,7 +1,8 @@
 //! The text of standard error.
 
 use crate::accepted::BadList;
-use crate::listing::{Listing, Shown, rules_among};
+use crate::endings::rules_among;
+use crate::listing::{Listing, Shown};
 use dia_explain_places::Note;
 use dia_lint::{RULE_COUNT, Rule, all_rules};
 use std::alloc::Global;
@@ -60,36 +61,39 @@ fn put_first(note: &mut Note, seen: &mut [bool; RULE_COUNT], rule: Rule) {
 }
 
 fn put_counts(note: &mut Note, listing: &Listing) {
-    put_count(note, listing.shown.len(), "line");
+    put_count(note, listing.shown.len(), "line", "lines");
     note.put(" of ");
-    put_count(note, rules_among(&listing.shown), "rule");
+    put_count(note, rules_among(&listing.shown), "rule", "rules");
     if listing.accepted > 0 {
         note.put(", ");
-        put_count(note, listing.accepted, "accepted line");
+        put_count(note, listing.accepted, "accepted line", "accepted lines");
     }
     if !listing.stale.is_empty() {
         note.put(", ");
-        put_count(note, listing.stale.len(), "stale entry");
+        put_count(note, listing.stale.len(), "stale entry", "stale entries");
     }
     note.put("\n");
 }
 
-fn put_count(note: &mut Note, count: usize, noun: &str) {
+fn put_count(note: &mut Note, count: usize, one: &str, many: &str) {
     note.put_number(count as u64);
     note.put(" ");
-    note.put(noun);
-    if count != 1 {
-        note.put("s");
-    }
+    note.put(if count == 1 { one } else { many });
 }
 
 /// Adds where and why a list of accepted lines is refused.
-pub(crate) fn explain_list(alloc: Global, notes: &mut String, text: &[u8], bad: BadList) {
+pub(crate) fn explain_list(
+    alloc: Global,
+    notes: &mut String,
+    word: &str,
+    text: &[u8],
+    bad: BadList,
+) {
     let Some(at) = bad.offset() else {
         return;
     };
     let mut note = Note::new(alloc);
-    note.put_place("accepted", text, at);
+    note.put_place(word, text, at);
     note.put_all(&[bad.word(), "\n"]);
     note.put_excerpt(text, at);
     note.put_hint("an accepted line is RULE SUBJECT: DETAIL");

@@ -1,7 +1,9 @@
 //! Notes: the reports on standard error of a text that is refused, and of a message that has no text.
 
+use crate::notes::dated::push_date;
 use crate::notes::meant::{Meant, byte_of, in_other_quotes, meant_of};
 use crate::notes::names::NamesOf;
+use crate::notes::others::is_of_dictionary;
 use crate::notes::shown::is_shown;
 use crate::notes::valued::{given_place, number_at, push_number, push_word};
 use crate::notes::wanted::words_of;
@@ -17,8 +19,11 @@ use dia_terms::MAX_MESSAGE_TEXT;
 use dia_text::{Fault, Faults, all_faults};
 use std::alloc::{AllocError, Global};
 
+mod dated;
+mod hints;
 mod meant;
 mod names;
+mod others;
 mod shown;
 mod valued;
 mod wanted;
@@ -112,7 +117,8 @@ fn push_faults(
         Input::TooLong => false,
     };
     push_fault(note, refusal, &NamesOf { book, is_base }, fault);
-    if !is_shown(line_of(refusal.text, fault)) {
+    let line = line_of(refusal.text, fault);
+    if !(is_shown(line) || is_of_dictionary(line)) {
         match faults_of(note.allocator(), refusal, book) {
             Ok(faults) => push_others(note, refusal, book, &faults),
             Err(error) => note.keep(Err(error)),
@@ -235,6 +241,7 @@ fn push_fault_at(
         Ok(Some(number)) => push_number(note, word, number),
         Ok(None) => match meant_of(fault.wanted, word, line, before) {
             Meant::Word => push_word(note, refusal.tables, line, column, word),
+            Meant::Date => push_date(note, names.book, line, column, word),
             meant => push_meant(note, names, word, meant),
         },
         Err(error) => note.keep(Err(error)),
@@ -246,40 +253,12 @@ fn push_meant(note: &mut Note, names: &NamesOf<'_>, word: &[u8], meant: Meant) {
     // Nothing where the word is no UTF-8.
     let spelt = str::from_utf8(word).unwrap_or("");
     match meant {
-        Meant::Nothing | Meant::Word => {}
+        Meant::Nothing | Meant::Word | Meant::Date => {}
         Meant::Command => names.push_command(note, spelt),
         Meant::Avp => names.push_avp(note, spelt),
         Meant::Text => push_quoted(note, word, false),
         Meant::Address => push_quoted(note, word, true),
-        Meant::Returns => note.put(
-            "hint: an empty line ends a message, and the line before this one has a carriage return: \
-             `tr -d '\\r'` takes it out\n",
-        ),
-        Meant::Closed => note.put("hint: the closing quote is missing on this line\n"),
-        Meant::Escaped => note.put(
-            "hint: x and two hexadecimal digits follow a backslash: \\x5c is the backslash itself, \\x22 the quote\n",
-        ),
-        Meant::Pairs => {
-            note.put(
-                "hint: a byte is two hexadecimal digits: the number of digits after x is even\n",
-            )
-        }
-        Meant::Sign => note.put(
-            "hint: only blanks separate a name and its value: leave out = and :\n",
-        ),
-        Meant::OtherQuotes => note.put(
-            "hint: a text is in double quotes, the ASCII sign \" before and after it\n",
-        ),
-        Meant::Number => note.put("hint: a number has no quotes\n"),
-        Meant::Shown => note.put(
-            "hint: this is a line of `diacmd show`: `diacmd show --as-text` writes the text that `make` reads\n",
-        ),
-        Meant::Comma => note.put(
-            "hint: an AVP is on a line of its own; commas are between the members of a group that is on one line\n",
-        ),
-        Meant::Member => note.put(
-            "hint: a comma is between two members of a group that is on one line\n",
-        ),
+        Meant::Hint(hint) => note.put_hint(hint),
     }
 }
 

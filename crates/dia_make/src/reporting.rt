@@ -5,9 +5,10 @@ use dia_report::{BadInput, ReadBook};
 use dia_show::BadValues;
 use dia_text::Fault;
 use std::fmt;
+use thiserror::Error;
 
 /// Why a text makes no messages.
-#[derive(Clone, Copy)]
+#[derive(Clone, Copy, Debug, Error)]
 pub enum BadText {
     /// More bytes than the text may have.
     TooLong,

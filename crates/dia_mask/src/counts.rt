@@ -66,7 +66,7 @@ impl Counts {
         })
     }
 
-    /// Those of an entry.
+    /// The counts of an AVP of the dictionary.
     pub fn of(&self, entry: Entry) -> Option<&AvpCount> {
         self.known.get(entry.index())
     }

@@ -7,6 +7,7 @@ ghost use Rattle.dia_mask.specs.Replaced.{Numbering, byte_word, new_bytes, new_u
 
 use crate::kinds::Kind;
 use crate::words::Words;
+use byteorder::{BigEndian, ByteOrder};
 use std::alloc::{AllocError, Global};
 
 /// The words that came before, and memory for the word under way.
@@ -172,7 +173,8 @@ fn push_reversed(characters: &mut Vec<char>, out: &mut String) -> Result<(), All
 fn push_number(out: &mut Vec<u8>, number: u64, count: usize) -> Result<(), AllocError>
     ensures { OnOk result (out.new.items ≡ out.old.items ++ byte_word count number) }
 {
-    let digits = number.to_be_bytes();
+    let mut digits = [0; 8];
+    BigEndian::write_u64(&mut digits, number);
     if count < 8 {
         out.extend_from_slice(&digits[8 - count..])?;
         Ok(())

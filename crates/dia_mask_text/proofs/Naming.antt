@@ -2,7 +2,7 @@
 use Rattle.std.proofs.Common.{◌≡◌, ℕ, zero, suc, ◌+◌, ◌<◌, ◌≤◌, ◌==◌, Bool, true, false, ◌||◌, cond, Bor, List, [], ◌∷◌, ◌++◌, length, take, find, map, Option, Some, None, refl, sym, ap, subst, ◌∙◌, arith}
 use Rattle.std.specs.Prelude.{IfSome, slice_get, slice_index_or}
 use Rattle.std.specs.HashSet.{HashSet, IsFromIterResult, contains_by}
-use Rattle.std.specs.List.{cons_option, filter_map, list_any, slice_split}
+use Rattle.std.specs.List.{cons_option, filter_map, list_any}
 use Rattle.std.specs.Option.{option_map, option_or}
 use Rattle.std.specs.Str.{bytes_eq}
 use Rattle.std.specs.Cmp.Lexicographic.{bytes_decides}
@@ -24,14 +24,10 @@ any_texts : (test : List ℕ → Bool) (names : List (Bor (List ℕ))) → list_
 any_texts test [] = refl
 any_texts test (name ∷ names) = ap (λ b. test name.now || b) (any_texts test names)
 
-pub made_set : {S : Type 0} (names : List (Bor (List ℕ))) (set : HashSet (Bor (List ℕ)) S) (list : List ℕ) → IsFromIterResult (λ (x y : Bor (List ℕ)). bytes_eq x.now y.now) names set → texts names ≡ names_of list
+pub made_set : {S : Type 0} (names : List (Bor (List ℕ))) (set : HashSet (Bor (List ℕ)) S) (list : Option (List ℕ)) → IsFromIterResult (λ (x y : Bor (List ℕ)). bytes_eq x.now y.now) names set → texts names ≡ names_of list
     → (q : List ℕ) → contains_by (λ (k : Bor (List ℕ)). bytes_eq q k.now) set ≡ is_listed list q
 made_set names set list made are q =
     made.0 (record { ref_ptr = (0, 0); now = q }) ∙ any_texts (bytes_eq q) names ∙ ap (list_any (bytes_eq q)) are
-
-pub some_list : (list : List ℕ) → (length list == 0) ≡ false → names_of list ≡ slice_split (λ b. b == 44) list
-some_list [] some = absurd (let z : true ≡ false = some in cc)
-some_list (c ∷ cs) some = refl
 
 -- ---- the first that has a fault
 
@@ -159,7 +155,7 @@ pub at_entry : (P : DictEntry → Type 0) (xs : List DictEntry) (n k : ℕ) (e :
 at_entry P xs n k e same h at = subst (λ (o : Option DictEntry). IfSome o P) (ap (slice_get xs) same ∙ at) h
 
 -- the first of a list's names that has a fault
-pub first_listed : (f : List ℕ → Option Why) (names items : List (Bor (List ℕ))) (list : List ℕ) (o : Option BadName) → fault_of o ≡ slice_get (with_faults f (texts names)) 0 → names ≡ items
+pub first_listed : (f : List ℕ → Option Why) (names items : List (Bor (List ℕ))) (list : Option (List ℕ)) (o : Option BadName) → fault_of o ≡ slice_get (with_faults f (texts names)) 0 → names ≡ items
     → texts items ≡ names_of list → fault_of o ≡ slice_get (with_faults f (names_of list)) 0
 first_listed f names items list o is same are =
     is ∙ ap (λ (xs : List (Bor (List ℕ))). slice_get (with_faults f (texts xs)) 0) same ∙ ap (λ (t : List (List ℕ)). slice_get (with_faults f t) 0) are

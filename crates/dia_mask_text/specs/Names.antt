@@ -1,7 +1,7 @@
 -- Which AVPs are masked by the lists of names, and which names are refused (our profile).
 use Rattle.std.specs.Prelude.{◌≡◌, ℕ, ◌==◌, Bool, true, false, not, ◌&&◌, ◌||◌, if◌then◌else◌, List, [], ◌∷◌, ◌++◌, length, find, Option, Some, None, slice_get, codes}
 use Rattle.std.specs.List.{filter_map, list_any, slice_split}
-use Rattle.std.specs.Option.{option_map}
+use Rattle.std.specs.Option.{option_copied, option_map}
 use Rattle.std.specs.Str.{bytes_eq}
 use Rattle.dia_dict.specs.Dictionary.{Dictionary, DictEntry}
 use Rattle.dia_mask.specs.declared.choice.Choice.{Choice}
@@ -12,19 +12,19 @@ use Rattle.dia_mask_text.specs.declared.options.Options.{Options}
 
 -- the lists of names: AVPs that stay, that are masked, too, and that are masked alone
 pub record Lists : Type 0 where
-  pub keep : List ℕ
-  pub mask : List ℕ
-  pub only : List ℕ
+  pub keep : Option (List ℕ)
+  pub mask : Option (List ℕ)
+  pub only : Option (List ℕ)
 
 abbrev pub lists : Options → Lists
-lists o = record { keep = o.keep.now; mask = o.mask.now; only = o.only.now }
+lists o = record { keep = option_copied o.keep; mask = option_copied o.mask; only = option_copied o.only }
 
--- the names of a list, with commas (44) between them; an empty text has none
-abbrev pub names_of : List ℕ → List (List ℕ)
-names_of [] = []
-names_of (c ∷ cs) = slice_split (λ b. b == 44) (c ∷ cs)
+-- the names of a list, if there is one, with commas (44) between them
+abbrev pub names_of : Option (List ℕ) → List (List ℕ)
+names_of None = []
+names_of (Some list) = slice_split (λ b. b == 44) list
 
-abbrev pub is_listed : List ℕ → List ℕ → Bool
+abbrev pub is_listed : Option (List ℕ) → List ℕ → Bool
 is_listed list name = list_any (bytes_eq name) (names_of list)
 
 -- the name of all AVPs that the dictionary doesn't know; no AVP of a dictionary has it
@@ -59,7 +59,7 @@ abbrev pub fault_in : Dictionary → List ℕ → Option Why
 fault_in d name = if bytes_eq name unknown_name then None else why_not (replaceable_in d.entries name)
 
 -- why a name of AVPs to be masked is: they are to stay
-abbrev pub fault_by : List ℕ → List ℕ → Option Why
+abbrev pub fault_by : Option (List ℕ) → List ℕ → Option Why
 fault_by keep name = if is_listed keep name then Some Twice else None
 
 -- those of the names that have a fault, each with it

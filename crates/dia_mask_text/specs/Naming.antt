@@ -16,7 +16,7 @@ abbrev pub texts : List (Bor (List ℕ)) → List (List ℕ)
 texts names = map (λ name. name.now) names
 
 -- the names of a list, in their order and as a set
-pub record IsNameList (list : List ℕ) (names : NameList) : Type 0 where
+pub record IsNameList (list : Option (List ℕ)) (names : NameList) : Type 0 where
   pub are_names : texts names.names.items ≡ names_of list
   pub is_set : (q : List ℕ) → contains_by (λ k. bytes_eq q k.now) names.set ≡ is_listed list q
 

@@ -43,7 +43,7 @@ pub(crate) struct Answered {
     pub(crate) count: u64,
     /// Memory for the bytes of a line.
     space: Vec<u8>,
-    /// The answers that weren't put yet.
+    /// Pending answers.
     pub(crate) text: String,
 }
 

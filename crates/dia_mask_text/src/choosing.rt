@@ -1,7 +1,8 @@
 //! The AVPs that the options name.
 
-ghost use Rattle.std.specs.Prelude.{◌≡◌, IfErr, IfOk, List, Some, slice_get, ℕ};
+ghost use Rattle.std.specs.Prelude.{◌≡◌, IfErr, IfOk, List, Option, Some, slice_get, ℕ};
 ghost use Rattle.std.specs.HashSet.{IsFromIterResult};
+ghost use Rattle.std.specs.Option.{option_copied};
 ghost use Rattle.std.specs.Str.{bytes_eq};
 ghost use Rattle.dia_dict.specs.Dictionary.{Dictionary};
 ghost use Rattle.dia_mask_text.specs.Names.{IsChoice, fault_by, fault_in, first_refused, lists, names_of, why_not, with_faults};
@@ -12,18 +13,20 @@ use dia_dict::Book;
 use dia_mask::{Choice, can_be_masked};
 use std::alloc::{AllocError, Global};
 use std::collections::{HashMap, HashSet};
+use thiserror::Error;
 
 /// The word for AVPs that the dictionary doesn't know.
 pub(crate) const UNKNOWN: &str = "AVP";
 
 /// A name that is refused, and why.
-#[derive(Clone, Copy)]
+#[derive(Clone, Copy, Debug, Error)]
+#[error("{name}")]
 pub(crate) struct BadName<'a> {
     pub(crate) name: &'a str,
     pub(crate) why: Why,
 }
 
-#[derive(Clone, Copy)]
+#[derive(Clone, Copy, Debug)]
 pub(crate) enum Why {
     /// The dictionary has no AVP of this name.
     Missing,
@@ -126,11 +129,12 @@ impl<'a> NameLists<'a> {
 impl<'a> NameList<'a> {
     ghost use Rattle.std.specs.Prelude.{◌≡◌, IfOk};
     ghost use Rattle.std.specs.HashSet.{contains_by};
+    ghost use Rattle.std.specs.Option.{option_copied};
     ghost use Rattle.std.specs.Str.{bytes_eq};
     ghost use Rattle.dia_mask_text.specs.Naming.{IsNameList};
 
-    fn of(alloc: Global, list: &'a str) -> Result<NameList<'a>, AllocError>
-        ensures { IfOk result (IsNameList list.now) }
+    fn of(alloc: Global, list: Option<&'a str>) -> Result<NameList<'a>, AllocError>
+        ensures { IfOk result (IsNameList (option_copied list.entry)) }
     {
         let names = names_of(alloc, list)?;
         let set = set_of(alloc, &names)?;
@@ -144,14 +148,14 @@ impl<'a> NameList<'a> {
     }
 }
 
-/// The names of a list, with commas between them; an empty text has none.
-fn names_of<'a>(alloc: Global, list: &'a str) -> Result<Vec<&'a str>, AllocError>
-    ensures { IfOk result (λ names. texts names.items ≡ names_of list.now) }
+/// The names of a list, with commas between them.
+fn names_of<'a>(alloc: Global, list: Option<&'a str>) -> Result<Vec<&'a str>, AllocError>
+    ensures { IfOk result (λ names. texts names.items ≡ names_of (option_copied list.entry)) }
 {
-    if list.is_empty() {
-        return Ok(Vec::new(alloc));
+    match list {
+        Some(list) => list.split(',').collect(alloc),
+        None => Ok(Vec::new(alloc)),
     }
-    list.split(',').collect(alloc)
 }
 
 fn set_of<'a>(alloc: Global, names: &[&'a str]) -> Result<HashSet<&'a str>, AllocError>
@@ -207,7 +211,7 @@ fn why_not(replaceable: Option<bool>) -> Option<Why>
 
 /// The first of these names that are to be masked which is among those that are to stay.
 fn first_twice<'a>(keep: &NameList<'_>, names: &[&'a str]) -> Option<BadName<'a>>
-    ensures { (list : List ℕ) → IsNameList list keep.now
+    ensures { (list : Option (List ℕ)) → IsNameList list keep.now
         → fault_of result ≡ slice_get (with_faults (fault_by list) (texts names.now)) 0 }
 {
     for name in names {

@@ -1,7 +1,7 @@
 //! `mask`: messages of a text, a line each, with the data that may say who or where replaced.
 //!
 //! ```text
-//! let options = Options { keep: "", mask: "NAS-Port", only: "", json: false };
+//! let options = Options { keep: None, mask: Some("NAS-Port"), only: None, json: false };
 //! let mut notes = String::new(alloc);
 //! let reported = mask(alloc, &options, &dictionary, &mut notes, &mut feed, &mut sink)?;
 //! ```

@@ -46,28 +46,28 @@ left as they are: N 1
 0100002c$H0000232d0000000c616130300000232d000000ff00000000
 --
 1 line: 1 value of 1 AVP replaced
-4 bytes zeroed behind bad lengths
+4 bytes zeroed after bad lengths
 == bad in a group, good behind it; status 0
 01000034$H0000238c000000140000232d00000007616263640000232d000000097a000000
 --
 01000034$H0000238c000000140000232d00000007000000000000232d0000000961000000
 --
 1 line: 1 value of 1 AVP replaced
-4 bytes zeroed behind bad lengths
+4 bytes zeroed after bad lengths
 == cut; status 0
 01000020$H0000232d0000000c7a7a
 --
 01000020$H0000232d0000000c0000
 --
 1 line: 0 values of 0 AVPs replaced
-2 bytes zeroed behind bad lengths
+2 bytes zeroed after bad lengths
 == too long; status 0
 01000020$H0000232d000000097a0000007365637265742e2e
 --
 01000020$H0000232d00000009610000000000000000000000
 --
 1 line: 1 value of 1 AVP replaced
-8 bytes zeroed behind bad lengths
+8 bytes zeroed after bad lengths
 == fewer bytes than a header, a bad version and a bad Message Length; status 0
 0100001C
 02000020$H0000232d000000097a000000
@@ -78,7 +78,7 @@ left as they are: N 1
 01000021$H000000000000000000000000
 --
 3 lines: 0 values of 0 AVPs replaced
-24 bytes zeroed behind bad lengths
+24 bytes zeroed after bad lengths
 == lines; status 1
 01000020$H0000232d000000097a000000
 
@@ -189,6 +189,10 @@ mask: no AVP X
 --
 mask: no AVP 
 --
+== an empty list; only ; status 2
+--
+mask: no AVP 
+--
 ";
 
 #[test]
@@ -247,13 +251,13 @@ fn masked(alloc: Global, head: &str, text: &str) -> Result<Found, AllocError> {
 }
 
 /// The names of a list in a head.
-fn list_of<'a>(head: &'a str, word: &str) -> &'a str {
+fn list_of<'a>(head: &'a str, word: &str) -> Option<&'a str> {
     for part in head.split("; ") {
         if let Some(names) = part.strip_prefix(word) {
-            return names;
+            return Some(names);
         }
     }
-    ""
+    None
 }
 
 fn word_of(status: u8) -> &'static str {

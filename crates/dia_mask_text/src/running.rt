@@ -184,7 +184,7 @@ fn mask_piece<B: Book, F: Feed, S: Sink>(
     }
 }
 
-/// Puts the answers that weren't put yet.
+/// Flushes pending answers.
 fn put_answers<S: Sink>(answered: &mut Answered, sink: &mut S) -> Result<(), Failed>
     requires { ¬ IsTrue (S.has_failed sink.old) }
     ensures put { OnOk result

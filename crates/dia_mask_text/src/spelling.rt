@@ -11,11 +11,14 @@ use dia_run::read_message;
 use dia_streams::decode_digits;
 use dia_terms::{MAX_MESSAGE_TEXT, is_white};
 use std::alloc::{AllocError, Global};
+use thiserror::Error;
 
 /// Why a line spells no bytes.
-#[derive(Clone, Copy, PartialEq, Eq)]
+#[derive(Clone, Copy, Debug, PartialEq, Eq, Error)]
 pub(crate) enum Unread {
+    #[error("the text is too long")]
     TooLong,
+    #[error("the text is not hexadecimal")]
     NotHexadecimal,
 }
 

@@ -108,7 +108,7 @@ fn push_left(text: &mut String, rows: &[Row<'_>]) -> Result<(), AllocError> {
 fn push_zeroed(text: &mut String, state: &State) -> Result<(), AllocError> {
     match state.run.counts.zeroed {
         0 => Ok(()),
-        count => push_count(text, count, "byte", " zeroed behind bad lengths\n"),
+        count => push_count(text, count, "byte", " zeroed after bad lengths\n"),
     }
 }
 

@@ -148,10 +148,10 @@ closing_after reply (output.Send bytes ∷ outputs) (is, are) = λ i. SentBytes 
 
 -- an end replies only where it closes for what came
 pub replied_step : (c : PlainCore) (bytes : List ℕ) (what : Received) (reply : Option (List ℕ)) (outputs : List Output) → replies c bytes what ≡ true → IsReplied c bytes what reply
-    → AreOutputsAfter reply (lives c (Gets what)).deeds outputs → AreAnswered c.config bytes outputs ⊎ AreUnanswered bytes outputs
+    → AreOutputsAfter reply (lives c (Gets what)).deeds outputs → AreAnswered c.config bytes outputs ⊎ AreUnanswered c.config bytes outputs
 replied_step c bytes what reply outputs is at are = by reply (is_answered c bytes what reply is at) (subst (λ (o : Outcome). AreOutputsAfter reply o.deeds outputs) (lives_refused c bytes what is) are)
   where
-    by : (found : Option (List ℕ)) → IsReplyOf c.config bytes found → AreOutputsAfter found (Closes why.Invalid ∷ []) outputs → AreAnswered c.config bytes outputs ⊎ AreUnanswered bytes outputs
+    by : (found : Option (List ℕ)) → IsReplyOf c.config bytes found → AreOutputsAfter found (Closes why.Invalid ∷ []) outputs → AreAnswered c.config bytes outputs ⊎ AreUnanswered c.config bytes outputs
     by None none outs = inr (none, closing outputs outs)
     by (Some found) has outs = inl (reply_to_request c.config bytes found has, (found, has, closing_after found outputs outs))
 

@@ -22,6 +22,8 @@ pub mod ResultCode
 pub mod KeptApplications
 pub mod OneResult
 pub mod OneStep
+pub mod BaseDictionary
+pub mod DueAnswers
 pub mod Replies
 pub mod InvalidRequests
 pub mod OneOutcome

@@ -1,5 +1,5 @@
 -- An answer to an invalid request goes out in front of the close, and opens nothing at the other end.
-use Rattle.std.proofs.Common.{◌≡◌, ℕ, ◌/◌, Bool, true, false, cond, ◌&&◌, List, [], ◌∷◌, Option, Some, None, ◌⊎◌, inl, inr, ⊎_elim, refl, sym, ap, subst, ◌∙◌, arith}
+use Rattle.std.proofs.Common.{◌≡◌, ℕ, ◌/◌, Bool, true, false, cond, ◌&&◌, List, [], ◌∷◌, Option, Some, None, Ok, Err, ◌⊎◌, inl, inr, ⊎_elim, refl, sym, ap, subst, ◌∙◌, arith}
 use Rattle.std.specs.Prelude.{bit_and, bit_or, filter, MatchBool, IsTrue}
 use Rattle.std.specs.Int.Bits.{and_zero_r}
 use Rattle.std.proofs.lemmas.Nat.{and_assoc, and_or_apart, and_or_self}
@@ -20,6 +20,7 @@ use Rattle.dia_answer.specs.declared.forms.Made.{Made}
 use Rattle.dia_answer.specs.Dictionaries.{opaque}
 use Rattle.dia_answer.specs.Bodies.{result_code}
 use Rattle.dia_answer.specs.Reports.{HasOne, IsFormFor, IsRequest, IsValidBy, answer_header, form_flags}
+use Rattle.dia_answer.proofs.OneAnswer.{one_answered}
 use Rattle.dia_peer.specs.declared.kept_requests.Ids.{Ids}
 use Rattle.dia_peer.specs.declared.event.State.{State}
 use Rattle.dia_peer.specs.declared.event.State.TheVariants.{WaitCer, Open, WaitDpa}
@@ -30,6 +31,8 @@ use Rattle.dia_peer.specs.Table.{Gets, Closes, Outcome, closed, closes, happens_
 use Rattle.dia_peer.specs.Life.{heard, noticed, hears, lives}
 use Rattle.dia_peer.specs.Values.{keeps, newer}
 use Rattle.dia_peer.specs.Replies.{IsReplied, IsReply, IsReplyOf, is_refused, may_reply, replies}
+use Rattle.dia_peer.proofs.BaseDictionary.{base_is_dictionary}
+use Rattle.dia_peer.proofs.DueAnswers.{is_made}
 use Rattle.dia_peer.proofs.Sets.{IsIn, to_in}
 use Rattle.dia_peer.proofs.SpelledMessages.{one_message}
 use Rattle.dia_peer.proofs.ResultCode.{never}
@@ -118,6 +121,15 @@ pub good_is_quiet : (c : PlainCore) (bytes : List ℕ) (what : Received) (reply 
 good_is_quiet c bytes what reply good h =
     is_quiet c bytes what reply (and_left (is_refused what && c.manner.answers) (may_reply c.state bytes) (and_left (is_refused what) c.manner.answers good)) h
 
+-- bytes get one answer, or none
+pub one_reply : (c : PlainConfig) (bytes : List ℕ) (reply found : Option (List ℕ)) → IsReplyOf c bytes reply → IsReplyOf c bytes found → reply ≡ found
+one_reply c bytes None None x y = refl
+one_reply c bytes None (Some b) (why, x) (n, y, also) = absurd (one_answered base Kept Any c.host c.realm bytes base_is_dictionary (Err why) (Ok n) x y)
+one_reply c bytes (Some a) None (m, x, is) (why, y) = absurd (one_answered base Kept Any c.host c.realm bytes base_is_dictionary (Ok m) (Err why) x y)
+one_reply c bytes (Some a) (Some b) (m, x, is) (n, y, also) =
+    let same = one_answered base Kept Any c.host c.realm bytes base_is_dictionary (Ok m) (Ok n) x y in
+    ap (λ (r : List ℕ). Some r) (is ∙ same.0 ∙ sym also)
+
 -- ---- an answer
 
 valid_by : (f : Form) (bytes : List ℕ) → IsValidBy base Kept Any f bytes → IsValid (opaque base) Kept Any bytes
@@ -126,10 +138,10 @@ valid_by form.Error bytes v = v
 valid_by form.Base bytes v = v
 
 pub reply_is_valid : (c : PlainConfig) (request reply : List ℕ) → IsReply c request reply → IsValid (opaque base) Kept Any reply
-reply_is_valid c request reply (made, h, is) = subst (IsValid (opaque base) Kept Any) (sym is) (valid_by made.form made.bytes.items h.valid)
+reply_is_valid c request reply (made, due, is) = subst (IsValid (opaque base) Kept Any) (sym is) (valid_by made.form made.bytes.items (is_made c.host c.realm request made due).valid)
 
 pub reply_to_request : (c : PlainConfig) (request reply : List ℕ) → IsReply c request reply → IsRequest request
-reply_to_request c request reply (made, h, is) = let p = h.processed in (p.header, p.reads, p.is_request)
+reply_to_request c request reply (made, due, is) = due.is_request
 
 apart : (f : Form) → bit_and (form_flags f) 128 ≡ 0
 apart form.Own = refl
@@ -153,8 +165,8 @@ header_same b h vs m made is k ws n = one_message h k vs ws b m (subst (IsMessag
 
 -- no answer is a request
 pub reply_no_request : (b : List ℕ) (code : ℕ) (e : Bool) (ids : Ids) (vs : List PlainAvp) → IsSomeReply b → IsGood b code true e ids vs → ⊥
-reply_no_request b code e ids vs (c, request, (made, h, is)) g =
-    let p = h.processed in
+reply_no_request b code e ids vs (c, request, (made, due, is)) g =
+    let p = (is_made c.host c.realm request made due).processed in
     let same = (header_same b g.header vs g.message made is (answer_header p.header made.form) p.avps p.message).0 in
     no_request p.header made.form (subst (λ (k : Header). HasR k.flags) same (g.request_is.0 refl))
 
@@ -192,7 +204,8 @@ not_success code is e = let five : 2001 / 1000 ≡ 5 = ap (λ (n : ℕ). n / 100
 
 -- no answer says that a connection is opened
 pub reply_no_success : (b : List ℕ) (code : ℕ) (ids : Ids) (vs : List PlainAvp) → IsSomeReply b → IsGood b code false false ids vs → HasResult vs 2001 → ⊥
-reply_no_success b code ids vs (c, request, (made, h, is)) g has =
+reply_no_success b code ids vs (c, request, (made, due, is)) g has =
+    let h = is_made c.host c.realm request made due in
     let p = h.processed in
     let same = (header_same b g.header vs g.message made is (answer_header p.header made.form) p.avps p.message).0 in
     let clear : HasE (answer_header p.header made.form).flags → ⊥ = λ set. (let t : IsTrue false = g.error_is.1 (subst (λ (k : Header). HasE k.flags) (sym same) set) in never t) in

@@ -103,17 +103,12 @@ abbrev pub AreAnswered : PlainConfig → List ℕ → List Output → Type 0
 AreAnswered c bytes outputs = IsRequest bytes × ((reply : List ℕ) × IsReply c bytes reply × (map plain_output outputs ≡ SentBytes reply ∷ only_closes))
 
 -- the close alone, where the bytes get no answer
-abbrev pub AreUnanswered : List ℕ → List Output → Type 0
-AreUnanswered bytes outputs = HasNoReply bytes × (map plain_output outputs ≡ only_closes)
+abbrev pub AreUnanswered : PlainConfig → List ℕ → List Output → Type 0
+AreUnanswered c bytes outputs = HasNoReply c bytes × (map plain_output outputs ≡ only_closes)
 
 abbrev pub AreAnsweredAt : PlainConfig → Event → List Output → Type 0
 AreAnsweredAt c (event.Bytes bytes) outputs = AreAnswered c bytes.now outputs
 AreAnsweredAt c e outputs = ⊥
-
--- one of the two
-abbrev pub ClosesAt : PlainConfig → Event → List Output → Type 0
-ClosesAt c (event.Bytes bytes) outputs = AreAnswered c bytes.now outputs ⊎ AreUnanswered bytes.now outputs
-ClosesAt c e outputs = ⊥
 
 -- a core that closes for what came only closes, or, with the manner `answers`, answers a request in front of it
 abbrev pub AnswersOnly : PlainCore → Event → List Output → Type 0
@@ -121,12 +116,8 @@ AnswersOnly old e outputs = Contains (map plain_output outputs) (ClosedFor why.I
 
 -- bytes that are no valid message are answered, where they may be
 abbrev pub AnswersAt : PlainCore → Event → List Output → Type 0
-AnswersAt old (event.Bytes bytes) outputs = (what : Received) → IsReceived bytes.now what → replies old bytes.now what ≡ true → AreAnswered old.config bytes.now outputs ⊎ AreUnanswered bytes.now outputs
+AnswersAt old (event.Bytes bytes) outputs = (what : Received) → IsReceived bytes.now what → replies old bytes.now what ≡ true → AreAnswered old.config bytes.now outputs ⊎ AreUnanswered old.config bytes.now outputs
 AnswersAt old e outputs = ⊤
-
--- two lists of outputs at one event are the same, but for how a request is answered before the close
-abbrev pub AreSameOutputs : PlainCore → Event → (a b : List Output) → Type 0
-AreSameOutputs old e a b = (map plain_output a ≡ map plain_output b) ⊎ (IsTrue old.manner.answers × ClosesAt old.config e a × ClosesAt old.config e b)
 
 -- the first thing that is wrong with a configuration for a core of this manner
 abbrev pub IsRefusedAs : Manner → PlainConfig → ConfigFault → Type 0

@@ -1,45 +1,35 @@
 -- How a core of the manner `answers` answers a request that is no valid message, before it closes (RFC 6733 sections 7.1.5 and 7.2).
-use Rattle.std.specs.Prelude.{◌≡◌, ℕ, ◌==◌, ◌&&◌, Bool, true, false, nat_le, List, length, take, drop, Option, Some, None, MatchBool}
+use Rattle.std.specs.Prelude.{◌≡◌, ℕ, ◌==◌, ◌&&◌, Bool, true, false, nat_le, List, length, take, drop, Option, Some, None, Result, Ok, Err, MatchBool}
 use Rattle.dia_wire.specs.Lengths.{header_length}
-use Rattle.dia_wire.specs.Number.{IsField, number}
+use Rattle.dia_wire.specs.Number.{number}
 use Rattle.dia_dict.specs.Base.{base}
 use Rattle.dia_check.specs.declared.Unknown.TheVariants.{Kept}
 use Rattle.dia_check.specs.declared.Levels.TheVariants.{Any}
-use Rattle.dia_check.specs.Faults.{IsRecorded}
 use Rattle.dia_answer.specs.declared.forms.Made.{Made}
 use Rattle.dia_answer.specs.declared.forms.NoAnswer.{NoAnswer}
-use Rattle.dia_answer.specs.Bodies.{origin_host, origin_realm, result_code}
-use Rattle.dia_answer.specs.Reports.{HasBody, HasCopies, HasOne, IsFormFor, IsNoAnswer, IsProcessed, IsValidBy, form_dictionary}
+use Rattle.dia_answer.specs.Reports.{IsAnswered}
 use Rattle.dia_peer.specs.declared.codes.TheConstants.{CAPABILITIES_EXCHANGE}
 use Rattle.dia_peer.specs.declared.event.State.{State}
 use Rattle.dia_peer.specs.declared.event.State.TheVariants.{WaitCer, Open, WaitDpa}
 use Rattle.dia_peer.specs.Core.{PlainConfig, PlainCore}
 use Rattle.dia_peer.specs.Messages.{Received, Unreadable, Invalid}
 
--- an answer to the request that reports its first fault, as `answer` of dia_answer makes it: under the base dictionary, with the policy `kept` and any levels, of a node with these names
-pub record IsMade (host realm request : List ℕ) (made : Made) : Type 0 where
-  pub first_fault : IsRecorded base Kept Any request made.fault
-  pub valid : IsValidBy base Kept Any made.form made.bytes.items
-  pub processed : IsProcessed request made.fault.code made.form made.bytes.items
-  pub permanent : IsFormFor made.fault.code made.form
-  pub result_code : HasOne result_code (IsField 4 made.fault.code) made.bytes.items
-  pub origin_host : HasOne origin_host (λ b. b ≡ host) made.bytes.items
-  pub origin_realm : HasOne origin_realm (λ b. b ≡ realm) made.bytes.items
-  pub copies : HasCopies (form_dictionary made.form base) Kept Any made.fault.reason request made.bytes.items
-  pub body : HasBody base Kept Any host realm request made
+-- what a node of this configuration answers of bytes, as `answer` of dia_answer does by its host and realm: under the base dictionary, with the policy `kept` and any levels
+abbrev pub IsAnsweredBy : PlainConfig → List ℕ → Result Made NoAnswer → Type 0
+IsAnsweredBy c bytes found = IsAnswered base Kept Any c.host c.realm bytes found
 
--- the bytes are such an answer
+-- the bytes are the answer that is due to the request
 abbrev pub IsReply : PlainConfig → List ℕ → List ℕ → Type 0
-IsReply c request reply = (made : Made) × IsMade c.host c.realm request made × (reply ≡ made.bytes.items)
+IsReply c request reply = (made : Made) × IsAnsweredBy c request (Ok made) × (reply ≡ made.bytes.items)
 
--- none is made
-abbrev pub HasNoReply : List ℕ → Type 0
-HasNoReply request = (why : NoAnswer) × IsNoAnswer base Kept Any request why
+-- none is due
+abbrev pub HasNoReply : PlainConfig → List ℕ → Type 0
+HasNoReply c bytes = (why : NoAnswer) × IsAnsweredBy c bytes (Err why)
 
 -- the answer to these bytes, or none
 abbrev pub IsReplyOf : PlainConfig → List ℕ → Option (List ℕ) → Type 0
-IsReplyOf c request (Some reply) = IsReply c request reply
-IsReplyOf c request None = HasNoReply request
+IsReplyOf c bytes (Some reply) = IsReply c bytes reply
+IsReplyOf c bytes None = HasNoReply c bytes
 
 -- ---- where it goes out
 

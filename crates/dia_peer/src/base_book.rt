@@ -1,14 +1,13 @@
 //! The base dictionary, under which the messages of a connection are checked.
 
-ghost use Rattle.std.specs.Prelude.{◌≡◌, ◌↔◌, IfErr, IfOk, IsTrue};
+ghost use Rattle.std.specs.Prelude.{◌≡◌, ◌↔◌, IfOk, IsTrue};
 ghost use Rattle.std.proofs.Props.{props};
 ghost use mathlib.Core.Sum.{⊎_set};
 ghost use Rattle.dia_dict.specs.Base.{base};
 ghost use Rattle.dia_check.specs.declared.Unknown.TheVariants.{Kept};
 ghost use Rattle.dia_check.specs.declared.Levels.TheVariants.{Any};
 ghost use Rattle.dia_valid.specs.Valid.{IsValid};
-ghost use Rattle.dia_answer.specs.Reports.{IsNoAnswer};
-ghost use Rattle.dia_peer.specs.Replies.{IsMade};
+ghost use Rattle.dia_answer.specs.Reports.{IsAnswered};
 
 use dia_answer::{Made, Names, NoAnswer, answer};
 use dia_check::{Levels, Refusal, Unknown, check};
@@ -41,6 +40,7 @@ impl BaseBook {
             Err(Refusal::Spent) => Ok(false),
         }
     }
+
     /// The answer to a request that has a fault, or why there is none.
     pub(crate) fn answer(
         &self,
@@ -48,9 +48,8 @@ impl BaseBook {
         names: &Names<'_>,
         bytes: &[u8],
     ) -> Result<Result<Made, NoAnswer>, AllocError>
-        ensures made { IfOk result
-            (λ found. IfOk found (IsMade names.now.host.now names.now.realm.now bytes.now)) }
-        ensures none { IfOk result (λ found. IfErr found (IsNoAnswer base Kept Any bytes.now)) }
+        ensures { IfOk result
+            (IsAnswered base Kept Any names.now.host.now names.now.realm.now bytes.now) }
     {
         answer(alloc, &self.book, Unknown::Kept, Levels::Any, names, bytes)
     }

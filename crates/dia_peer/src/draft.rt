@@ -1,11 +1,13 @@
 //! AVPs that are made for a message.
 
 ghost use Rattle.std.specs.Prelude.{◌≡◌, ◌++◌, ◌∷◌, [], ◌<◌, ◌^◌, IfOk, OnOk, map, All};
+ghost use Rattle.std.specs.Int.{w32, to_be_bytes};
 ghost use Rattle.dia_wire.specs.Wire.{plain_avp, Agrees, IsTooLong, MessageWithZeros};
 ghost use Rattle.dia_peer.specs.Messages.{avp, avp32, header_of};
 ghost use Rattle.dia_peer.specs.Drafts.{drafted, drafted_avp};
 
 use crate::kept_requests::Ids;
+use byteorder::{BigEndian, ByteOrder};
 use dia_wire::{AVP_MANDATORY, Avp, Header, PutFault, put_message};
 use std::alloc::{AllocError, Global};
 
@@ -72,7 +74,7 @@ impl Draft {
     pub(crate) fn put_number(&mut self, code: u32, number: u32) -> Result<(), AllocError>
         ensures { OnOk result (drafted self.new ≡ drafted self.old ++ avp32 code number ∷ []) }
     {
-        self.put(code, &number.to_be_bytes())
+        self.put(code, &four_bytes(number))
     }
 
     /// The message with these flags, this command code and these AVPs.
@@ -108,4 +110,13 @@ fn borrowed<'a>(alloc: Global, avps: &'a [OwnAvp]) -> Result<Vec<Avp<'a>>, Alloc
         found.push(avp.as_avp())?;
     }
     Ok(found)
+}
+
+/// A number in network byte order.
+pub(crate) fn four_bytes(number: u32) -> [u8; 4]
+    ensures { result ≡ to_be_bytes w32 number }
+{
+    let mut bytes = [0; 4];
+    BigEndian::write_u32(&mut bytes, number);
+    bytes
 }

@@ -11,9 +11,9 @@ ghost use Rattle.dia_peer.specs.Core.{pair_of, is_relay, plain, common_of};
 ghost use Rattle.dia_peer.specs.Messages.{IsOurs};
 ghost use Rattle.dia_peer.specs.World.{World, Event as AnyEvent, Run, start, idle, Agrees, KnowEachOther};
 ghost use Rattle.dia_peer.specs.Life.{Act, ClosesInSilence};
-ghost use Rattle.dia_peer.specs.Machine.{AnswersAt, AnswersOnly, AreSameOutputs, IsPlain, IsStep, IsTableStep};
+ghost use Rattle.dia_peer.specs.Machine.{AnswersAt, AnswersOnly, IsPlain, IsStep, IsTableStep};
 ghost use Rattle.dia_peer.specs.Table.{Happening};
-ghost use Rattle.dia_peer.specs.Outputs.{SendsBytes};
+ghost use Rattle.dia_peer.specs.Outputs.{SendsBytes, plain_output};
 ghost use Rattle.dia_peer.specs.declared.config.Manner.{Manner as AnyManner};
 ghost use Rattle.dia_peer.specs.declared.config.Role.{Role as AnyRole};
 ghost use Rattle.dia_peer.specs.declared.event.Event.{Event as CoreEvent};
@@ -63,20 +63,19 @@ pub fn plain()
         → IsStep old e outputs new ↔ IsTableStep old e outputs new }
 {}
 
-/// What goes out in front of `Close(Invalid)` is the answer to the request that came, as dia_answer makes it, and only with
-/// the manner `answers`; so no answer is answered. With it, bytes that are no valid message are answered where the connection
-/// is open, and where a CER is waited for and they have its command code, unless dia_answer makes no answer to them.
+/// What goes out in front of `Close(Invalid)` is the answer to the request that came, the one that dia_answer makes, and only
+/// with the manner `answers`; so no answer is answered. With it, bytes that are no valid message are answered where the
+/// connection is open, and where a CER is waited for and they have its command code, unless dia_answer makes no answer to them.
 pub fn answered()
     ensures { (old new : PlainCore) (e : CoreEvent) (outputs : List CoreOutput)
         → IsStep old e outputs new → AnswersOnly old e outputs × AnswersAt old e outputs }
 {}
 
-/// A step has one outcome: a core and an event have one core afterwards and one list of what is done, the bytes of
-/// each message and each reason to close, in their order. Of an answer to an invalid request this says only that both lists
-/// are as in `answered`.
+/// A step has one outcome, whatever the manner: a core and an event have one core afterwards and one list of what is done,
+/// the bytes of each message, of an answer to an invalid request too, and each reason to close, in their order.
 pub fn one_step()
     ensures { (old new other : PlainCore) (e : CoreEvent) (a b : List CoreOutput)
         → IsStep old e a new → IsStep old e b other
         → All SendsBytes a → All SendsBytes b
-        → (new ≡ other) × AreSameOutputs old e a b }
+        → (new ≡ other) × (map plain_output a ≡ map plain_output b) }
 {}

@@ -30,9 +30,10 @@ use crate::codes::{
     ORIGIN_STATE_ID, PRODUCT_NAME, RELAY, VENDOR_ID, VENDOR_SPECIFIC_APPLICATION_ID,
 };
 use crate::config::{App, Config, ConfigFault, Ip, Kind, Manner};
-use crate::draft::Draft;
+use crate::draft::{Draft, four_bytes};
 use crate::judging::judge;
 use crate::named_apps::NamedApps;
+use byteorder::{BigEndian, ByteOrder};
 use dia_answer::{Made, Names};
 use dia_wire::AVP_MANDATORY;
 use std::alloc::{AllocError, Global};
@@ -235,7 +236,9 @@ fn address_bytes(alloc: Global, ip: &Ip) -> Result<Vec<u8>, AllocError>
 fn of_family(alloc: Global, family: u16, bytes: &[u8]) -> Result<Vec<u8>, AllocError>
     ensures { IfOk result (λ found. found.items ≡ to_be_bytes w16 family ++ bytes.now) }
 {
-    let mut found = Vec::from_slice(alloc, &family.to_be_bytes())?;
+    let mut number = [0; 2];
+    BigEndian::write_u16(&mut number, family);
+    let mut found = Vec::from_slice(alloc, &number)?;
     found.extend_from_slice(bytes)?;
     Ok(found)
 }
@@ -316,8 +319,8 @@ fn app_code(kind: Kind) -> u32
 fn push_number(out: &mut Vec<u8>, code: u32, number: u32) -> Result<(), AllocError>
     ensures { OnOk result (out.new.items ≡ out.old.items ++ spelled (avp32 code number)) }
 {
-    out.extend_from_slice(&code.to_be_bytes())?;
+    out.extend_from_slice(&four_bytes(code))?;
     out.extend_from_slice(&[0x40, 0, 0, 12])?;
-    out.extend_from_slice(&number.to_be_bytes())?;
+    out.extend_from_slice(&four_bytes(number))?;
     Ok(())
 }

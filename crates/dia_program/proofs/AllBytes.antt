@@ -17,13 +17,12 @@ use Rattle.dia_captures.specs.Streams.{IsStreamAnswered, IsStreamOutcome}
 use Rattle.dia_streams.specs.Streams.{StillGives}
 use Rattle.dia_show.specs.Lines.{AreLinesShown, IsLinesOutcome as AreLinesOutcome, shown, each_whole}
 use Rattle.dia_show.specs.Lines as show
-use Rattle.dia_answer.specs.Lines as answer
 use Rattle.dia_cli.specs.Ending.{Stream}
 use Rattle.dia_cli.specs.declared.task.Answering.{Answering}
-use Rattle.dia_tasks.specs.Captures.{Captures, Fed, IsReadOut, Lists}
-use Rattle.dia_tasks.specs.Endings.{Runs, Writes}
-use Rattle.dia_tasks.specs.Replies.{Replies}
-use Rattle.dia_tasks.specs.Replies as replies
+use Rattle.dia_program.specs.Captures.{Captures, Fed, IsReadOut, Lists}
+use Rattle.dia_driver.specs.Endings.{Runs, Writes}
+use Rattle.dia_program.specs.Replies.{Replies}
+use Rattle.dia_program.specs.Replies as replies
 use Rattle.dia_program.specs.AllBytes.{AreAllReplied, IsTextOfAll, named, unnamed}
 
 ends_well : (b : Bool) (exit : Exit) → exit ≡ (if b then Yes else No) → exit ≡ Bad → ⊥
@@ -84,6 +83,6 @@ pub replies_of_bytes : (asked : Answering) (inputs : Inputs) (bytes word : List 
     → Replies asked inputs (Some bytes) word out (Ok reported) → Runs (AreAllReplied asked inputs bytes) out (Ok reported)
 replies_of_bytes asked inputs bytes word out reported (replies.named names p) =
     let (text, is, is_put) =
-    lines_of_bytes (answer.replies asked.unknown asked.levels) (λ ended exit. ends_well ended.each exit) inputs bytes p.1.0 out reported.exit p.1.1 p.1.2.0 p.1.2.1 in
+    lines_of_bytes (replies.replies_by asked) (λ ended exit. ends_well ended.each exit) inputs bytes p.1.0 out reported.exit p.1.1 p.1.2.0 p.1.2.1 in
     (p.0, (text, named names is, is_put))
 replies_of_bytes asked inputs bytes word out reported (replies.unnamed (live, (text, is, is_put))) = (live, (text, unnamed is, is_put))

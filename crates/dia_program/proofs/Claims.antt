@@ -7,7 +7,7 @@ use Rattle.dia_io.specs.declared.Command.TheVariants as command
 use Rattle.dia_io.specs.declared.Exit.{Exit}
 use Rattle.dia_io.specs.declared.Exit.TheVariants.{Yes, No, Bad}
 use Rattle.dia_io.specs.declared.Inputs.{Inputs}
-use Rattle.dia_inclusion.specs.declared.Answer.TheVariants as answer
+use Rattle.dia_compat.specs.declared.Answer.TheVariants as answer
 use Rattle.dia_run.specs.Inclusion.{ShowsInclusion, TextsInclude}
 use Rattle.dia_run.specs.Outcome.{compared, ended}
 use Rattle.dia_run.specs.Texts.{line}
@@ -26,11 +26,12 @@ use Rattle.dia_cli.specs.declared.origin.Origins.{Origins}
 use Rattle.dia_cli.specs.declared.request.Request.{Request}
 use Rattle.dia_cli.specs.declared.task.Task.{Task}
 use Rattle.dia_cli.specs.declared.task.Task.TheVariants as task
-use Rattle.dia_tasks.specs.Answers.{IsAnswer}
-use Rattle.dia_tasks.specs.Tasks.{World}
+use Rattle.dia_program.specs.Answers.{IsAnswer}
+use Rattle.dia_driver.specs.Tasks.{TaskEnds, World}
+use Rattle.dia_program.specs.Tasks.{TaskRuns}
 use Rattle.dia_program.specs.Breaking.{IsListed}
 use Rattle.dia_program.specs.Claims.{Says, SaysOfUpgrade}
-use Rattle.dia_program.specs.Program.{RequestEnds, TaskEnds, done, unread}
+use Rattle.dia_driver.specs.Program.{RequestEnds, done, unread}
 
 -- ---- `compare`
 
@@ -93,8 +94,9 @@ listed_says false asked inputs text exit is = text_says asked inputs text exit i
 -- ---- a request
 
 task_says : (t : Task) (json : Bool) (w : World) (origins : Origins) (inputs : Inputs) (out : Stream) (exit : Exit)
-    → TaskEnds t json w origins inputs out (Ok exit) → Says t inputs exit
-task_says (task.Breaking breaking) json w origins inputs out exit (asked, asks, (live, (text, is, put))) = (asked, asks, listed_says json asked inputs text exit is)
+    → TaskEnds TaskRuns t json w origins inputs out (Ok exit) → Says t inputs exit
+task_says (task.Breaking breaking) json w origins inputs out exit (reported, same, (asked, asks, (live, (text, is, put)))) =
+    subst (λ (e : Exit). Says (task.Breaking breaking) inputs e) same (asked, asks, listed_says json asked inputs text reported.exit is)
 task_says (task.Whole c) json w origins inputs out exit (reported, same, (live, (text, is, put))) =
     subst (λ (e : Exit). Says (task.Whole c) inputs e) same (whole_says json origins.table c inputs text reported.exit is)
 task_says task.Make json w origins inputs out exit p = tt
@@ -114,7 +116,7 @@ task_says (task.Diff sends unknown) json w origins inputs out exit p = tt
 task_says (task.Lint asked) json w origins inputs out exit p = tt
 task_says (task.Examples asked) json w origins inputs out exit p = tt
 
-pub answers_say : (request : Request) (w : World) (out : Stream) (exit : Exit) → RequestEnds request w out (Ok exit)
+pub answers_say : (request : Request) (w : World) (out : Stream) (exit : Exit) → RequestEnds TaskRuns request w out (Ok exit)
     → (inputs : Inputs) × IsReadOf w.content w.standard request.origins inputs × Says request.task inputs exit
 answers_say request w out exit (done inputs read ends) = (inputs, read, task_says request.task request.json w request.origins inputs out exit ends)
 answers_say request w out exit (unread made is untouched same) = absurd cc

@@ -1,3 +1,10 @@
 pub mod AllBytes
 pub mod Claims
-pub mod Failures
+pub mod Commands
+pub mod Feeds
+pub mod Lints
+pub mod Names
+pub mod Results
+pub mod RunFailures
+pub mod Runs
+pub mod TaskFailures

@@ -4,6 +4,7 @@ use Rattle.std.specs.Io.KnownBytes.{Appends}
 use Rattle.dia_io.specs.Writing.{AppendsFront}
 use Rattle.dia_io.specs.declared.Exit.{Exit}
 use Rattle.dia_io.specs.declared.Inputs.{Inputs}
+use Rattle.dia_report.specs.declared.reporting.Reported.{Reported}
 use Rattle.dia_cli.specs.Ending.{Stream}
 use Rattle.dia_cli.specs.declared.ending.Ending.{Ending}
 use Rattle.dia_cli.specs.declared.ending.Ending.TheVariants as ending
@@ -15,6 +16,7 @@ use Rattle.dia_upgrades.specs.Outcome.{IsBreakingOutcome}
 use Rattle.dia_upgrades.specs.Begun.{IsOutcomeBegun, IsOutcomeBegunOrWhole}
 use Rattle.dia_upgrades_json.specs.Outcome.{IsBreakingJson}
 use Rattle.dia_upgrades_json.specs.Begun.{IsJsonBegun, IsJsonBegunOrWhole}
+use Rattle.dia_driver.specs.Endings.{Writes}
 
 -- a stale entry of the list fails, unless that is allowed
 abbrev pub stale_in : Bool → Stale
@@ -46,13 +48,13 @@ IsBegunOrWhole true asked inputs text = IsJsonBegunOrWhole asked inputs text
 IsBegunOrWhole false asked inputs text = IsOutcomeBegunOrWhole asked inputs text
 
 -- where standard output failed, it has a prefix of that
-abbrev pub Lists : Bool → Asked → Inputs → Stream → Result Exit Ending → Type 0
-Lists json asked inputs out (Ok exit) = (¬ IsTrue out.failed) × ((text : List ℕ) × IsListed json asked inputs text exit × Appends out.old out.new text)
-Lists json asked inputs out (Err (ending.Device name error)) = IsTrue out.failed × (name.now ≡ codes "standard output")
+abbrev pub IsPut : Bool → Asked → Inputs → Stream → Result Reported Ending → Type 0
+IsPut json asked inputs out (Ok reported) = (¬ IsTrue out.failed) × Writes (IsListed json asked inputs) out reported.exit
+IsPut json asked inputs out (Err (ending.Device name error)) = IsTrue out.failed × (name.now ≡ codes "standard output")
     × ((text : List ℕ) × IsBegunOrWhole json asked inputs text × AppendsFront out.old out.new text)
-Lists json asked inputs out (Err ending.NoMemory) = (¬ IsTrue out.failed) × ((text : List ℕ) × IsBegun json asked inputs text × Appends out.old out.new text)
-Lists json asked inputs out (Err made) = ⊥
+IsPut json asked inputs out (Err ending.NoMemory) = (¬ IsTrue out.failed) × ((text : List ℕ) × IsBegun json asked inputs text × Appends out.old out.new text)
+IsPut json asked inputs out (Err made) = ⊥
 
 -- of what the command line asks for
-abbrev pub Breaks : Bool → Breaking → Inputs → Stream → Result Exit Ending → Type 0
-Breaks json breaking inputs out ended = (asked : Asked) × AsksFor breaking asked × Lists json asked inputs out ended
+abbrev pub Breaks : Bool → Breaking → Inputs → Stream → Result Reported Ending → Type 0
+Breaks json breaking inputs out ended = (asked : Asked) × AsksFor breaking asked × IsPut json asked inputs out ended

@@ -1,4 +1,11 @@
 pub mod AllBytes
+pub mod Answers
 pub mod Breaking
+pub mod Captures
 pub mod Claims
-pub mod Program
+pub mod Connections
+pub mod Lints
+pub mod Masked
+pub mod Replies
+pub mod Samples
+pub mod Tasks

@@ -12,19 +12,20 @@ ghost use Rattle.dia_terms.specs.declared.Levels.{Levels as AnyLevels};
 ghost use Rattle.dia_terms.specs.declared.Unknown.{Unknown as AnyPolicy};
 ghost use Rattle.dia_program.specs.AllBytes.{AreAllReplied, IsTextOfAll};
 ghost use Rattle.dia_program.specs.Claims.{Says};
-ghost use Rattle.dia_program.specs.Program.{RequestEnds};
+ghost use Rattle.dia_driver.specs.Program.{RequestEnds};
 ghost use Rattle.dia_report.specs.declared.reporting.Reported.{Reported as AnyReported};
 ghost use Rattle.dia_show.specs.Lines.{IsLinesOutcome};
-ghost use Rattle.dia_tasks.specs.Captures.{Captures, Lists};
-ghost use Rattle.dia_tasks.specs.Endings.{Runs};
-ghost use Rattle.dia_tasks.specs.Replies.{Replies};
-ghost use Rattle.dia_tasks.specs.Tasks.{World};
+ghost use Rattle.dia_program.specs.Captures.{Captures, Lists};
+ghost use Rattle.dia_driver.specs.Endings.{Runs};
+ghost use Rattle.dia_program.specs.Replies.{Replies};
+ghost use Rattle.dia_driver.specs.Tasks.{World};
+ghost use Rattle.dia_program.specs.Tasks.{TaskRuns};
 
 /// A request that was answered was answered of inputs that were read. A yes of `compare` says of them that what is valid under the
 /// first dictionary is valid under the second, and the end of `breaking` says what breaks; also with `--json`.
 pub fn answers_say()
     ensures { (request : AnyRequest) (w : World) (out : Stream) (exit : AnyExit)
-        → RequestEnds request w out (Ok exit)
+        → RequestEnds TaskRuns request w out (Ok exit)
         → (inputs : AnyInputs) × IsReadOf w.content w.standard request.origins inputs
         × Says request.task inputs exit }
 {}

@@ -10,15 +10,23 @@
 //! let mut err = ToWriter::new(Vec::new(alloc));
 //! let status = run(&rt, &opener, "1.0.0", words.as_slice(), &mut out, &mut err);
 //! ```
-//!
-//! `breaking` is done here, and each other task by dia_tasks.
 #![tactic(auto)]
 
-mod advice;
-mod built;
+mod all_faults;
+mod answering;
+mod asking;
+mod captured;
+mod following;
+mod front;
 mod laws;
-mod performing;
+mod listing;
+mod masking;
+mod replying;
+mod replying_lines;
 mod running;
+mod showing;
+mod tasks;
+mod text;
 mod upgrading;
 
 pub use laws::{answers_say, captures_of_bytes, lists_of_bytes, replies_of_bytes};

@@ -4,19 +4,20 @@ ghost use Rattle.std.specs.Prelude.{◌≡◌, ◌↔◌, Err, IfOk, IsTrue, Lis
 ghost use Rattle.std.specs.Io.KnownBytes.{Appends};
 ghost use Rattle.dia_io.specs.Writing.{AppendsFront};
 ghost use Rattle.dia_cli.specs.Ending.{stream};
-ghost use Rattle.dia_program.specs.Breaking.{AsksFor, IsBegun, IsBegunOrWhole, IsListed, Lists, stale_in};
+ghost use Rattle.dia_program.specs.Breaking.{AsksFor, Breaks, IsBegun, IsBegunOrWhole, IsListed, stale_in};
 
 use dia_cli::{Breaking, Ending, Origins, STANDARD_OUTPUT};
+use dia_driver::{Manner, texts_of};
 use dia_explain_places::InputTexts;
 use dia_explain_upgrades::explain_upgrade;
-use dia_io::{Exit, Inputs, RunFault, Sink, ToWriter};
-use dia_tasks::{Manner, texts_of};
+use dia_io::{Inputs, RunFault, Sink, ToWriter};
+use dia_report::Reported;
 use dia_upgrades::{Asked, BreakingAnswer, Report, Stale, breaking};
 use std::alloc::Global;
 use std::io::Write;
 
 /// `breaking` as the command line asks for it.
-pub(crate) fn asked_of(breaking: &Breaking) -> Asked<'_>
+fn asked_of(breaking: &Breaking) -> Asked<'_>
     ensures { AsksFor breaking.now result }
 {
     Asked {
@@ -41,31 +42,35 @@ fn stale_in(is_allowed: bool) -> Stale
     }
 }
 
-/// Lists what breaks, and explains it, unless it is to be quiet: each cause if `explain`, and otherwise the first ones.
+/// Lists what breaks, and explains it, unless it is to be quiet: each cause if that is asked for, and otherwise the first ones.
 pub(crate) fn list<'a, R, W>(
     rt: &R,
-    asked: Asked<'_>,
-    explain: bool,
+    question: &Breaking,
     inputs: &Inputs,
     origins: &Origins<'a>,
     manner: Manner,
     out: &mut ToWriter<W>,
-) -> Result<Exit, Ending<'a>>
+) -> Result<Reported, Ending<'a>>
 where
     R: AllocGlobal + Eprint,
     W: Write,
     requires { ¬ IsTrue (⟦<ToWriter<W> as Sink>⟧.has_failed out.old) }
-    ensures { Lists manner.json asked.entry inputs.now
+    ensures { Breaks manner.json question.now inputs.now
         (stream (⟦<ToWriter<W> as Sink>⟧.written out.old) (⟦<ToWriter<W> as Sink>⟧.written out.new)
         (⟦<ToWriter<W> as Sink>⟧.has_failed out.new)) result }
 {
+    let asked = asked_of(question);
     match listed(rt.alloc(), asked, inputs, manner.json, out) {
         Ok(listed) => {
             if !manner.quiet {
                 let texts = texts_of(origins, inputs);
+                let explain = question.explain;
                 note_upgrade(rt, &texts, asked, explain, inputs, &listed.report);
             }
-            Ok(listed.exit)
+            Ok(Reported {
+                exit: listed.exit,
+                report: dia_report::Report::Done,
+            })
         }
         Err(fault) => Err(Ending::of_run(fault, STANDARD_OUTPUT, out.failure())),
     }

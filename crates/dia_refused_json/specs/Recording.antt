@@ -1,5 +1,5 @@
 -- What is written where a command refuses an input, and how it ends.
-use Rattle.std.specs.Prelude.{◌≡◌, ℕ, ◌⊎◌, List, string_bytes}
+use Rattle.std.specs.Prelude.{◌≡◌, ℕ, ◌⊎◌, Bool, true, false, List, string_bytes}
 use Rattle.dia_io.specs.declared.Input.{Input}
 use Rattle.dia_io.specs.declared.Inputs.{Inputs}
 use Rattle.dia_io.specs.declared.Exit.{Exit}
@@ -19,6 +19,11 @@ use Rattle.dia_refused_json.specs.Refusals.{IsFoundIn, bad_input_json}
 abbrev pub RecordsBad : Input → AnyRefusal → List ℕ → Exit → Type 0
 RecordsBad input (refused.Bad bad) text exit = (text ≡ bad_input_json input bad) × (exit ≡ Bad)
 RecordsBad input refused.NoMemory text exit = ⊥
+
+-- the line of an input that is refused: as JSON, if that is asked for
+abbrev pub refused_text : Bool → Input → BadInput → List ℕ
+refused_text true input bad = bad_input_json input bad
+refused_text false input bad = line (bad_input_text bad)
 
 -- an input is refused, of which the command reports this as text
 abbrev pub IsRefusal : (List ℕ → Type 0) → Input → List ℕ → Exit → Type 0

@@ -5,6 +5,6 @@ mod answer;
 mod refusals;
 mod strings;
 
-pub use answer::refuse;
+pub use answer::{refuse, refuse_as};
 pub use refusals::{bad_input_line, text_of};
 pub use strings::quoted;

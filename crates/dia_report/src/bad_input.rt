@@ -7,6 +7,7 @@ use crate::wrong_source::WrongSource;
 use dia_ccf::{CcfFault, Misfit};
 use dia_wire::MessageFault;
 use std::fmt;
+use thiserror::Error;
 
 /// An input that is refused, and why.
 #[derive(Drop)]
@@ -42,7 +43,7 @@ pub enum BadTable {
 }
 
 /// Why a text is no message.
-#[derive(Clone, Copy)]
+#[derive(Clone, Copy, Debug, Error)]
 pub enum BadMessage {
     /// More bytes than the text of a message may have.
     TooLong,

@@ -3,12 +3,23 @@
 use crate::bad_input::{BadInput, BadMessage};
 use dia_wire::MessageFault;
 use std::alloc::AllocError;
+use std::fmt;
+use thiserror::Error;
 
 /// Why an input can't be used: it is refused, or memory is.
-#[derive(Drop)]
+#[derive(Drop, Error)]
 pub enum Refused {
+    #[error("{0}")]
     Bad(BadInput),
+    #[error("out of memory")]
     NoMemory,
+}
+
+/// Prints as `Display` does.
+impl fmt::Debug for Refused {
+    fn fmt<W: fmt::Write>(&self, f: &mut fmt::Formatter<W>) -> fmt::Result {
+        fmt::Display::fmt(self, f)
+    }
 }
 
 impl From<BadMessage> for Refused {

@@ -3,10 +3,9 @@
 use crate::bad_input::BadInput;
 use dia_ccf::Source;
 use dia_check::{Levels, Refusal, Selected, Unknown};
+use dia_compat::{Answer, Failing, Table};
 use dia_dict::IndexedBook;
-use dia_inclusion::{Answer, Failing};
 use dia_io::Exit;
-use dia_tables::Table;
 
 /// What a command writes, how it ends, and its report.
 #[derive(Drop)]

@@ -6,14 +6,14 @@ use Rattle.std.proofs.lemmas.Option.{slice_get-map, slice_get_read}
 use Rattle.std.proofs.lemmas.List.{length-map}
 use Rattle.dia_dict.specs.Dictionary.{Dictionary}
 use Rattle.dia_check.specs.declared.Unknown.{Unknown}
-use Rattle.dia_inclusion.specs.declared.Answer.{Answer}
-use Rattle.dia_inclusion.specs.declared.Answer.TheVariants.{Yes, No}
-use Rattle.dia_inclusion.specs.declared.PairKind.TheVariants as pair
-use Rattle.dia_inclusion.specs.declared.Test.{Test}
-use Rattle.dia_inclusion.specs.declared.PairKind.{PairKind}
-use Rattle.dia_tables.specs.declared.Table.{Table}
-use Rattle.dia_tables.specs.TableText.{PlainTable, plain_table, plain_pair}
-use Rattle.dia_inclusion.specs.Closed.{IsTableAnswer}
+use Rattle.dia_compat.specs.declared.Answer.{Answer}
+use Rattle.dia_compat.specs.declared.Answer.TheVariants.{Yes, No}
+use Rattle.dia_compat.specs.declared.PairKind.TheVariants as pair
+use Rattle.dia_compat.specs.declared.Test.{Test}
+use Rattle.dia_compat.specs.declared.PairKind.{PairKind}
+use Rattle.dia_compat.specs.declared.Table.{Table}
+use Rattle.dia_compat.specs.TableText.{PlainTable, plain_table, plain_pair}
+use Rattle.dia_compat.specs.Closed.{IsTableAnswer}
 use Rattle.dia_io.specs.declared.Exit.{Exit}
 use Rattle.dia_io.specs.declared.Exit.TheVariants as exits
 use Rattle.dia_run.specs.declared.commands.Outcome.{Outcome}

@@ -7,24 +7,24 @@ use Rattle.std.proofs.lemmas.List.Elements.{Contains-push_cases}
 use Rattle.dia_dict.specs.Dictionary.{Dictionary, IsDictionary, PlainDefinition}
 use Rattle.dia_check.specs.declared.Unknown.{Unknown}
 use Rattle.dia_check.specs.declared.Levels.{Levels}
-use Rattle.dia_inclusion.specs.declared.Answer.{Answer}
-use Rattle.dia_inclusion.specs.declared.Answer.TheVariants as answer
-use Rattle.dia_inclusion.specs.declared.PairKind.TheVariants as pair
-use Rattle.dia_inclusion.specs.declared.Test.{Test}
-use Rattle.dia_tables.specs.TableText.{PlainTable, IsTable}
-use Rattle.dia_inclusion.specs.Closed.{NamesCommand}
-use Rattle.dia_inclusion.specs.Proposed.{AreCommandPairs, IsProposal, IsFirstUnknown}
-use Rattle.dia_tables.specs.WrittenTable.{table_text}
+use Rattle.dia_compat.specs.declared.Answer.{Answer}
+use Rattle.dia_compat.specs.declared.Answer.TheVariants as answer
+use Rattle.dia_compat.specs.declared.PairKind.TheVariants as pair
+use Rattle.dia_compat.specs.declared.Test.{Test}
+use Rattle.dia_compat.specs.TableText.{PlainTable, IsTable}
+use Rattle.dia_compat.specs.Closed.{NamesCommand}
+use Rattle.dia_compat.specs.Proposed.{AreCommandPairs, IsProposal, IsFirstUnknown}
+use Rattle.dia_compat.specs.WrittenTable.{table_text}
 use Rattle.dia_valid.proofs.Members.{IsIn, contains_in}
-use Rattle.dia_tables.proofs.TableLines.{one_table_of, one_fault, fault_or_table}
-use Rattle.dia_inclusion.proofs.OneAnswer.{one_comparison}
-use Rattle.dia_inclusion.proofs.OneProposal.{one_proposal}
+use Rattle.dia_compat.proofs.TableLines.{one_table_of, one_fault, fault_or_table}
+use Rattle.dia_compat.proofs.OneAnswer.{one_comparison}
+use Rattle.dia_compat.proofs.OneProposal.{one_proposal}
 use Rattle.std.specs.Str.Lines.{lines}
 use Rattle.dia_io.specs.declared.Input.{Input}
 use Rattle.dia_io.specs.declared.Inputs.{Inputs}
 use Rattle.dia_io.specs.declared.Exit.{Exit}
 use Rattle.dia_report.specs.Refusals.{dictionary_line, table_line}
-use Rattle.dia_tables.specs.TableText.{max_table}
+use Rattle.dia_compat.specs.TableText.{max_table}
 use Rattle.dia_run.specs.Pairs.{IsTableText, IsNoTableText, too_long, not_text, fault, table_fault_text, IsFailureText, failure_line, IsAnswerText}
 use Rattle.dia_run.specs.Outcome.{IsPairOutcome, ended, no_first, no_second, IsComparison, compared, no_table, IsCompareOutcome, IsRefutation, refutes, does_not, no_message, IsRefuteOutcome}
 use Rattle.dia_run.specs.Outcome.{IsProposed, proposed, no_command, no_command_line, IsProposeOutcome}

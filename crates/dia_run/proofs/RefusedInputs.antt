@@ -14,14 +14,14 @@ use Rattle.dia_ccf.specs.Refusals.{IsRefused}
 use Rattle.dia_io.specs.declared.Input.{Input}
 use Rattle.dia_io.specs.declared.Input.TheVariants.{Bytes, TooLong}
 use Rattle.dia_io.specs.Inputs.{Holds}
-use Rattle.dia_tables.specs.TableText.{max_table}
+use Rattle.dia_compat.specs.TableText.{max_table}
 use Rattle.dia_report.specs.Refusals.{dictionary_line, fault_text, RecordsOf, bad_input_text, table_line}
 use Rattle.dia_run.specs.Texts.{line, IsNoSourceText, fault, IsDictionaryText, IsNoDictionaryText, IsNoMessageText}
 use Rattle.dia_run.specs.Texts.{refused_text}
 use Rattle.dia_run.specs.Pairs.{IsNoTableText, fault as table_fault, table_fault_text}
-use Rattle.dia_tables.specs.declared.TableFault.{TableFault}
-use Rattle.dia_tables.specs.declared.TableFault.TheVariants as tables
-use Rattle.dia_tables.specs.TableText.{IsTableFault}
+use Rattle.dia_compat.specs.declared.TableFault.{TableFault}
+use Rattle.dia_compat.specs.declared.TableFault.TheVariants as tables
+use Rattle.dia_compat.specs.TableText.{IsTableFault}
 use Rattle.dia_dict.specs.Dictionary.{Dictionary}
 use Rattle.dia_check.specs.declared.Unknown.{Unknown}
 use Rattle.dia_check.specs.declared.Levels.{Levels}

@@ -2,12 +2,12 @@
 use Rattle.std.proofs.Common.{◌≡◌, ℕ, List, refl}
 use Rattle.dia_dict.specs.Dictionary.{Dictionary}
 use Rattle.dia_check.specs.declared.Unknown.{Unknown}
-use Rattle.dia_inclusion.specs.declared.Answer.{Answer}
-use Rattle.dia_inclusion.specs.declared.Answer.TheVariants as answer
-use Rattle.dia_inclusion.specs.declared.PairKind.TheVariants as pair
-use Rattle.dia_tables.specs.TableText.{PlainTable}
-use Rattle.dia_inclusion.specs.Closed.{IsTableAnswer}
-use Rattle.dia_inclusion.proofs.IncludedMessages.{included}
+use Rattle.dia_compat.specs.declared.Answer.{Answer}
+use Rattle.dia_compat.specs.declared.Answer.TheVariants as answer
+use Rattle.dia_compat.specs.declared.PairKind.TheVariants as pair
+use Rattle.dia_compat.specs.TableText.{PlainTable}
+use Rattle.dia_compat.specs.Closed.{IsTableAnswer}
+use Rattle.dia_compat.proofs.IncludedMessages.{included}
 use Rattle.dia_io.specs.declared.Command.{Command}
 use Rattle.dia_io.specs.declared.Command.TheVariants as command
 use Rattle.dia_io.specs.declared.Inputs.{Inputs}

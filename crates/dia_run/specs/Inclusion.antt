@@ -4,7 +4,7 @@ use Rattle.dia_dict.specs.Dictionary.{Dictionary, PlainDefinition, definitions}
 use Rattle.dia_check.specs.declared.Unknown.{Unknown}
 use Rattle.dia_check.specs.declared.Levels.{Levels}
 use Rattle.dia_valid.specs.Valid.{IsValidOf}
-use Rattle.dia_tables.specs.TableText.{PlainTable}
+use Rattle.dia_compat.specs.TableText.{PlainTable}
 use Rattle.dia_io.specs.declared.Command.{Command}
 use Rattle.dia_io.specs.declared.Command.TheVariants.{Compare}
 use Rattle.dia_io.specs.declared.Inputs.{Inputs}

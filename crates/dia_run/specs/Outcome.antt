@@ -13,11 +13,11 @@ use Rattle.dia_check.specs.declared.Selected.{Selected}
 use Rattle.dia_check.specs.declared.Refusal.{Refusal}
 use Rattle.dia_check.specs.Faults.{IsAnswer as IsChecked}
 use Rattle.dia_valid.specs.Valid.{IsValid}
-use Rattle.dia_inclusion.specs.declared.Answer.{Answer}
-use Rattle.dia_tables.specs.TableText.{PlainTable}
-use Rattle.dia_inclusion.specs.Closed.{IsTableAnswer as IsCompared}
-use Rattle.dia_inclusion.specs.Proposed.{IsProposal, IsFirstUnknown}
-use Rattle.dia_tables.specs.WrittenTable.{table_text}
+use Rattle.dia_compat.specs.declared.Answer.{Answer}
+use Rattle.dia_compat.specs.TableText.{PlainTable}
+use Rattle.dia_compat.specs.Closed.{IsTableAnswer as IsCompared}
+use Rattle.dia_compat.specs.Proposed.{IsProposal, IsFirstUnknown}
+use Rattle.dia_compat.specs.WrittenTable.{table_text}
 use Rattle.dia_run.specs.declared.commands.Outcome.{Outcome}
 use Rattle.dia_report.specs.declared.refusing.Refused.{Refused}
 use Rattle.dia_io.specs.declared.Command.{Command}

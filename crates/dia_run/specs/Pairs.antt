@@ -1,21 +1,21 @@
 -- Tables of pairs as texts, and what is reported of a pair.
 use Rattle.std.specs.Prelude.{◌≡◌, ◌≢◌, ℕ, ◌<◌, List, [], ◌++◌, Some, codes, slice_get, ⊤}
 use Rattle.std.specs.Str.{IsUtf8}
-use Rattle.dia_inclusion.specs.declared.Answer.{Answer}
-use Rattle.dia_inclusion.specs.declared.Answer.TheVariants.{Yes as Passed, No as Failed}
-use Rattle.dia_inclusion.specs.declared.PairKind.TheVariants as pair
-use Rattle.dia_inclusion.specs.declared.Test.{Test}
-use Rattle.dia_inclusion.specs.declared.Test.TheVariants.{N1, N2, N3, N4, N5, N6, N7, N8, N9, N10}
-use Rattle.dia_tables.specs.declared.TableFault.{TableFault}
-use Rattle.dia_tables.specs.declared.TableFault.TheVariants as table
-use Rattle.dia_tables.specs.TableText.{PlainTable, IsTable, IsTableFault}
-use Rattle.dia_inclusion.specs.Closed.{pairs_of}
-use Rattle.dia_tables.specs.WrittenTable.{pair_text}
+use Rattle.dia_compat.specs.declared.Answer.{Answer}
+use Rattle.dia_compat.specs.declared.Answer.TheVariants.{Yes as Passed, No as Failed}
+use Rattle.dia_compat.specs.declared.PairKind.TheVariants as pair
+use Rattle.dia_compat.specs.declared.Test.{Test}
+use Rattle.dia_compat.specs.declared.Test.TheVariants.{N1, N2, N3, N4, N5, N6, N7, N8, N9, N10}
+use Rattle.dia_compat.specs.declared.TableFault.{TableFault}
+use Rattle.dia_compat.specs.declared.TableFault.TheVariants as table
+use Rattle.dia_compat.specs.TableText.{PlainTable, IsTable, IsTableFault}
+use Rattle.dia_compat.specs.Closed.{pairs_of}
+use Rattle.dia_compat.specs.WrittenTable.{pair_text}
 use Rattle.dia_io.specs.declared.Input.{Input}
 use Rattle.dia_io.specs.declared.Exit.{Exit}
 use Rattle.dia_io.specs.declared.Exit.TheVariants.{Yes, No}
 use Rattle.dia_io.specs.Inputs.{Holds, IsOver}
-use Rattle.dia_tables.specs.TableText.{max_table}
+use Rattle.dia_compat.specs.TableText.{max_table}
 use Rattle.dia_report.specs.Refusals.{fault_at, table_line}
 use Rattle.dia_run.specs.Texts.{line}
 

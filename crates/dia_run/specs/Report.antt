@@ -5,9 +5,9 @@ use Rattle.dia_ccf.specs.Limits.{max_text}
 use Rattle.dia_ccf.specs.Plain.{plain_source}
 use Rattle.dia_ccf.specs.Refusals.{IsRefused}
 use Rattle.dia_check.specs.Faults.{IsAnswer as IsChecked}
-use Rattle.dia_tables.specs.TableText.{max_table, plain_table}
-use Rattle.dia_inclusion.specs.Closed.{IsTableAnswer as IsCompared}
-use Rattle.dia_inclusion.specs.Failings.{AreFailingsFor}
+use Rattle.dia_compat.specs.TableText.{max_table, plain_table}
+use Rattle.dia_compat.specs.Closed.{IsTableAnswer as IsCompared}
+use Rattle.dia_compat.specs.Failings.{AreFailingsFor}
 use Rattle.dia_dict.specs.Dictionary.{Dictionary as AnyDictionary}
 use Rattle.dia_dict.specs.declared.IndexedBook.{IndexedBook}
 use Rattle.dia_io.specs.declared.Input.{Input}

@@ -4,7 +4,7 @@ use dia_check::{Progress, Stream};
 use dia_dict::Book;
 use std::process::Abort;
 
-mod deep;
+pub mod deep;
 mod long;
 mod memory;
 pub mod pieces;

@@ -1,12 +1,12 @@
-//! Comparisons, proposals and tables by the calls of dia_tables, dia_inclusion and dia_check.
+//! Comparisons, proposals and tables by the calls of dia_compat.
 
 use crate::books::Books;
 use crate::words::{levels_of, policy_of, same};
-use dia_check::refutes;
+use dia_compat::{
+    Answer, PairKind, Table, check_table, parse_table, propose, refutes, render_table,
+};
 use dia_dict::Book;
-use dia_inclusion::{Answer, PairKind, check_table, propose};
 use dia_rows::{Names, Row, bytes_of, field, word};
-use dia_tables::{Table, parse_table, render_table};
 use std::alloc::{AllocError, Global};
 use std::process::Abort;
 
@@ -93,10 +93,11 @@ fn proposed<A: Book, B: Book>(rt: &(impl AllocGlobal + Abort), a: &A, b: &B, cal
     format!(in rt.alloc(); "0{blank}{text}").expect(rt, "memory")
 }
 
-/// The names of commands after the policy.
-fn names_of(alloc: Global, call: &str) -> Result<Vec<String>, AllocError> {
+/// The names of commands after the policy; `-` is the empty one.
+pub fn names_of(alloc: Global, call: &str) -> Result<Vec<String>, AllocError> {
     let mut list = Vec::new(alloc);
-    for name in call.split_ascii_whitespace().skip(2) {
+    for word in call.split_ascii_whitespace().skip(2) {
+        let name = if word == "-" { "" } else { word };
         list.push(String::from_str(alloc, name)?)?;
     }
     Ok(list)

@@ -1,6 +1,6 @@
-//! The tests of `dia_check`, `dia_faults`, `dia_tables`, `dia_inclusion`, `dia_peer` and `dia_run`, by library: each goes through
-//! public calls alone. `rows` has what both kinds of book answer. Those of `dia_run` are `devices`, which fail; what its commands
-//! write, `.ci/cases` compares. There is nothing but tests.
+//! The tests of `dia_check`, `dia_faults`, `dia_compat`, `dia_peer` and `dia_run`, by library: each goes through
+//! public calls alone. `rows` has what both kinds of book answer, and what `run` of `dia_run` writes; `devices` are some that
+//! fail, and `refused` has calls that are refused memory. There is nothing but tests.
 #![tactic(auto)]
 
 #[cfg(test)]
@@ -14,6 +14,8 @@ mod devices;
 #[cfg(test)]
 mod faults;
 #[cfg(test)]
+mod limits;
+#[cfg(test)]
 mod peer;
 #[cfg(test)]
 mod recorded;
@@ -21,5 +23,7 @@ mod recorded;
 mod refused;
 #[cfg(test)]
 mod rows;
+#[cfg(test)]
+mod running;
 #[cfg(test)]
 mod words;

@@ -16,7 +16,7 @@ mod schedules;
 mod steps;
 mod timing;
 
-const fn auth(id: u32) -> App {
+pub const fn auth(id: u32) -> App {
     App {
         kind: Kind::Auth,
         id,
@@ -50,22 +50,31 @@ fn relay(rt: &(impl AllocGlobal + Abort), config: Config, role: Role) -> Box<Cor
 }
 
 /// What a core does at an event. Where memory is refused, nothing has changed, and the event is given again.
-fn deliver(rt: &impl Abort, core: &mut Core, event: Event<'_>) -> Vec<Output> {
-    let before = (core.state(), core.common().len());
+pub fn deliver(rt: &impl Abort, core: &mut Core, event: Event<'_>) -> Vec<Output> {
+    let before = (
+        core.state(),
+        core.common().len(),
+        core.common().first().copied(),
+    );
     if let Ok(outputs) = core.step(event) {
         return outputs;
     }
-    assert!(rt; (core.state(), core.common().len()) == before);
+    let now = (
+        core.state(),
+        core.common().len(),
+        core.common().first().copied(),
+    );
+    assert!(rt; now == before);
     core.step(event).expect(rt, "memory")
 }
 
 /// The end `a.b`, which sends the CER.
-fn first(alloc: Global, apps: &[App]) -> Result<Config, AllocError> {
+pub fn first(alloc: Global, apps: &[App]) -> Result<Config, AllocError> {
     config(alloc, "a.b", "b", "p", [127, 0, 0, 1], apps)
 }
 
 /// The end `c.d`, which answers it.
-fn second(alloc: Global, apps: &[App]) -> Result<Config, AllocError> {
+pub fn second(alloc: Global, apps: &[App]) -> Result<Config, AllocError> {
     config(alloc, "c.d", "d", "q", [127, 0, 0, 2], apps)
 }
 

@@ -1,9 +1,8 @@
-//! The texts of the faults of dia_check, dia_inclusion and dia_tables.
+//! The texts of the faults of dia_check and dia_compat.
 
 use crate::words::same;
 use dia_check::{Fault, Reason, Refusal, StreamFault, Subject};
-use dia_inclusion::ProposeFault;
-use dia_tables::TableFault;
+use dia_compat::{ProposeFault, TableFault};
 use std::fmt::Display;
 use std::process::Abort;
 

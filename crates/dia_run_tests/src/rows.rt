@@ -1,6 +1,8 @@
-//! Rows of calls, which both kinds of book answer. POLICY is `kept` or `refused`, LEVELS is `any` or a number:
+//! Rows of calls. POLICY is `kept` or `refused`, LEVELS is `any` or a number, the NAME `-` the empty one:
 //!
 //! ```text
+//! show | DICTIONARY | MESSAGE
+//! render | DICTIONARY
 //! check POLICY LEVELS | DICTIONARY | MESSAGE
 //! fronts FROM..TO check POLICY LEVELS | DICTIONARY | MESSAGE
 //! compare POLICY | FIRST | SECOND | TABLE
@@ -11,14 +13,16 @@
 //! ```
 //!
 //! `fronts` calls for the first bytes of the message, for each count of them from FROM on and below TO. The answer of these
-//! calls is the status and the text of the program: `.ci/cases` runs their rows against it. A row with status 2 is the
-//! program's alone. `take` feeds a stream pieces of so many bytes, of which it takes so many; `done` is in place of
+//! calls is the status and the text of the program: `run` gives it over a writer in memory, and `.ci/cases` runs the rows
+//! against the program. Those of `check`, `compare`, `propose` and `refute` whose inputs aren't refused (status 2) both kinds
+//! of book answer, too. `take` feeds a stream pieces of so many bytes, of which it takes so many; `done` is in place of
 //! `more` where it then is done. `open` is answered by COUNT/LEVELS..: how many levels are open after so many bytes.
 
 use crate::books::{Books, Task, is_verdict};
 use crate::check::feed;
 use crate::check::pieces::check_level;
 use crate::comparing::answer_pairs;
+use crate::running::rows::{run_fronts, run_once};
 use crate::words::{levels_of, number_of, policy_of, range_of};
 use dia_check::{Levels, Stream, Unknown};
 use dia_dict::{Book, base_text};
@@ -27,15 +31,21 @@ use std::process::Abort;
 
 mod comparisons;
 mod cut;
+mod dictionaries;
 mod faults;
 mod names;
 mod pieces;
 mod proposals;
 mod refutations;
+mod renders;
+mod shows;
 mod tallies;
 mod verdicts;
 
-const TEXTS: [&str; 8] = [
+const TEXTS: [&str; 11] = [
+    shows::ROWS,
+    renders::ROWS,
+    dictionaries::ROWS,
     verdicts::ROWS,
     cut::ROWS,
     faults::ROWS,
@@ -46,10 +56,26 @@ const TEXTS: [&str; 8] = [
     refutations::ROWS,
 ];
 
+/// What answers rows.
+#[derive(Clone, Copy)]
+enum By {
+    /// Both kinds of book.
+    Books,
+    /// `run`.
+    Run,
+}
+
 #[test]
 fn both_kinds_of_book_answer(rt: HostRuntime) {
     for text in TEXTS.iter() {
-        answers(&rt, text);
+        answers(&rt, text, By::Books);
+    }
+}
+
+#[test]
+fn run_answers(rt: HostRuntime) {
+    for text in TEXTS.iter() {
+        answers(&rt, text, By::Run);
     }
 }
 
@@ -63,23 +89,39 @@ pub fn known_names(rt: &(impl AllocGlobal + Abort)) -> Names {
 }
 
 /// Checks each row of a text.
-fn answers(rt: &(impl AllocGlobal + Abort), text: &str) {
+fn answers(rt: &(impl AllocGlobal + Abort), text: &str, by: By) {
     let mut names = known_names(rt);
     for line in text.lines() {
         if let Some(row) = names.row(line).expect(rt, line) {
-            answer(rt, &names, &row);
+            answer(rt, &names, &row, by);
         }
     }
 }
 
 /// Checks a row.
-fn answer(rt: &(impl AllocGlobal + Abort), names: &Names, row: &Row<'_>) {
-    if row.wanted.starts_with('2') {
-        return;
+fn answer(rt: &(impl AllocGlobal + Abort), names: &Names, row: &Row<'_>, by: By) {
+    match by {
+        By::Books if !row.wanted.starts_with('2') => answer_books(rt, names, row),
+        By::Books => {}
+        By::Run => run_row(rt, names, row),
     }
+}
+
+/// Checks what both kinds of book answer, if there is such a call.
+fn answer_books(rt: &(impl AllocGlobal + Abort), names: &Names, row: &Row<'_>) {
     match word(row.call, 0) {
+        "show" | "render" => {}
         "check" | "fronts" | "take" | "open" => answer_one(rt, names, row),
         _ => answer_pairs(rt, names, row),
+    }
+}
+
+/// Checks what `run` answers, if there is such a command.
+fn run_row(rt: &(impl AllocGlobal + Abort), names: &Names, row: &Row<'_>) {
+    match word(row.call, 0) {
+        "take" | "open" => {}
+        "fronts" => run_fronts(rt, names, row),
+        _ => run_once(rt, names, row),
     }
 }
 

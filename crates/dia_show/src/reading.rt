@@ -9,9 +9,10 @@ use crate::words::{MAX_VALUES, ValuesFault, Words, read_words};
 use dia_io::Input;
 use std::alloc::{AllocError, Global};
 use std::fmt;
+use thiserror::Error;
 
 /// Why an input is no text of words.
-#[derive(Clone, Copy, PartialEq, Eq)]
+#[derive(Clone, Copy, Debug, PartialEq, Eq, Error)]
 pub enum BadValues {
     /// More bytes than the text may have.
     TooLong,

@@ -6,6 +6,7 @@ ghost use Rattle.dia_show.specs.Words.{line_fault, plain_words, values_fault, wo
 use crate::parts::{entry_of, is_skipped};
 use indexmap::IndexMap;
 use std::alloc::{AllocError, AllocFailed, Global};
+use thiserror::Error;
 
 /// The most bytes of a text of words (our profile).
 pub const MAX_VALUES: usize = 4_194_304;
@@ -20,15 +21,19 @@ pub struct Words<'t> {
 }
 
 /// Why a text is none of words. Lines count from 1.
-#[derive(Clone, Copy, PartialEq, Eq)]
+#[derive(Clone, Copy, Debug, PartialEq, Eq, Error)]
 pub enum ValuesFault {
     /// The line isn't `NAME NUMBER WORD`.
+    #[error("line {line}: no name, number and word")]
     Syntax { line: u32 },
     /// A line before has the same name and number.
+    #[error("line {line}: a line before has the same name and number")]
     Duplicate { line: u32 },
     /// The line is one more than [`MAX_LINES`].
+    #[error("line {line}: too many lines")]
     Limit { line: u32 },
     /// Memory was refused.
+    #[error("out of memory")]
     NoMemory,
 }
 

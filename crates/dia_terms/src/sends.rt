@@ -5,6 +5,9 @@ pub enum Sends {
     Any,
     /// Only AVPs that the dictionary knows.
     Known,
+    /// AVPs that the dictionary knows, where `[ AVP ]` is the only rule of their level that doesn't forbid AVPs; elsewhere only
+    /// AVPs that a rule names.
+    Filled,
     /// Only AVPs that a rule of their level names, at every depth.
     Listed,
 }

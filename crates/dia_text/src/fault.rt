@@ -8,7 +8,7 @@ use std::fmt;
 use thiserror::Error;
 
 /// What is wrong with a line.
-#[derive(Debug, Clone, Copy)]
+#[derive(Debug, Clone, Copy, Error)]
 pub enum Kind {
     /// A word is missing, or one is where none is allowed.
     Syntax,
@@ -108,7 +108,8 @@ pub enum Wanted {
 }
 
 /// What is wrong with a word of a line, and where.
-#[derive(Debug, Clone, Copy)]
+#[derive(Debug, Clone, Copy, Error)]
+#[error("{kind}")]
 pub struct Misfit {
     pub kind: Kind,
     pub wanted: Wanted,
@@ -117,9 +118,11 @@ pub struct Misfit {
 }
 
 /// Why a line wasn't read.
-#[derive(Clone, Copy)]
+#[derive(Clone, Copy, Debug, Error)]
 pub enum NotRead {
+    #[error("{0}")]
     Misfit(Misfit),
+    #[error("out of memory")]
     NoMemory,
 }
 

@@ -11,10 +11,10 @@ use Rattle.dia_book.specs.declared.DefHead.TheVariants.{Group}
 use Rattle.dia_book.specs.Dictionary.{Dictionary, DictEntry, PlainDefinition, IsDictionary, IsCommandHead, definitions, groups}
 use Rattle.dia_book.proofs.Members.{at_append, at_filter_map}
 use Rattle.dia_breaking_sites.proofs.Members.{in_at, contains_in, all_of}
-use Rattle.dia_inclusion.specs.Closed.{NamesCommand}
-use Rattle.dia_inclusion.specs.PairTests.{command_named}
+use Rattle.dia_compat.specs.Closed.{NamesCommand}
+use Rattle.dia_compat.specs.PairTests.{command_named}
 use Rattle.dia_valid.proofs.Members.{in_filter_map, in_contains, contains_in as contains}
-use Rattle.dia_inclusion.proofs.NamedCommands.{command_found, next_item, no_command}
+use Rattle.dia_compat.proofs.NamedCommands.{command_found, next_item, no_command}
 use Rattle.dia_upgrades.specs.Asking.{AreCommands, IsAskedFor}
 use Rattle.dia_upgrades.specs.Places.{asked_places}
 

@@ -7,8 +7,8 @@ use Rattle.std.proofs.lemmas.List.{append-nil}
 use Rattle.std.proofs.lemmas.List.Elements.{All-contains}
 use Rattle.dia_book.specs.Dictionary.{Dictionary, PlainDefinition}
 use Rattle.dia_breaking_sites.proofs.Members.{in_at, contains_in}
-use Rattle.dia_inclusion.specs.Closed.{NamesCommand}
-use Rattle.dia_inclusion.specs.Proposed.{IsFirstUnknown}
+use Rattle.dia_compat.specs.Closed.{NamesCommand}
+use Rattle.dia_compat.specs.Proposed.{IsFirstUnknown}
 use Rattle.dia_io.specs.declared.Input.{Input}
 use Rattle.dia_io.specs.declared.Input.TheVariants as inputs
 use Rattle.dia_io.specs.declared.Inputs.{Inputs}

@@ -1,7 +1,7 @@
 -- The commands that `breaking` is asked for.
 use Rattle.std.specs.Prelude.{◌≡◌, ℕ, ◌⊎◌, List, [], map, string_bytes, All, Contains}
 use Rattle.dia_book.specs.Dictionary.{Dictionary, PlainDefinition}
-use Rattle.dia_inclusion.specs.Closed.{NamesCommand}
+use Rattle.dia_compat.specs.Closed.{NamesCommand}
 use Rattle.dia_upgrades.specs.declared.asked.Asked.{Asked}
 
 -- the names of commands that are given

@@ -4,8 +4,8 @@ use Rattle.std.specs.Global.{Vec}
 use Rattle.std.specs.List.{AllByRecursion, list_any}
 use Rattle.dia_book.specs.Dictionary.{Dictionary, PlainDefinition, definitions}
 use Rattle.dia_breaking_sites.specs.Selection.{AreValid}
-use Rattle.dia_inclusion.specs.Closed.{NamesCommand}
-use Rattle.dia_inclusion.specs.Proposed.{IsFirstUnknown}
+use Rattle.dia_compat.specs.Closed.{NamesCommand}
+use Rattle.dia_compat.specs.Proposed.{IsFirstUnknown}
 use Rattle.dia_io.specs.declared.Input.{Input}
 use Rattle.dia_io.specs.declared.Inputs.{Inputs}
 use Rattle.dia_io.specs.declared.Exit.{Exit}

@@ -5,7 +5,7 @@ use Rattle.dia_terms.specs.declared.sends.Sends.{Sends}
 use Rattle.dia_terms.specs.declared.Unknown.{Unknown}
 use Rattle.dia_book.specs.Dictionary.{Dictionary, groups}
 use Rattle.dia_breaking_sites.specs.Selection.{AreValid}
-use Rattle.dia_inclusion.specs.PairTests.{command_named}
+use Rattle.dia_compat.specs.PairTests.{command_named}
 
 -- those of the commands of these names, in the order of the names; of all commands, where no name is given
 abbrev pub asked_places : Dictionary → List (List ℕ) → List ℕ

@@ -8,9 +8,10 @@ use dia_accepted::{Entry, ListFault, MAX_LIST, read_list};
 use dia_io::Input;
 use std::alloc::{AllocError, Global};
 use std::fmt;
+use thiserror::Error;
 
 /// Why a text is no list of accepted lines.
-#[derive(Clone, Copy)]
+#[derive(Clone, Copy, Debug, Error)]
 pub enum BadList {
     /// More bytes than the text of a list may have.
     TooLong,

@@ -3,7 +3,7 @@
 ghost use Rattle.std.specs.Prelude.{◌≡◌, IfOk, IfErr, map, position, string_bytes, true};
 ghost use Rattle.std.specs.List.{range_with_len};
 ghost use Rattle.std.specs.Str.{bytes_eq};
-ghost use Rattle.dia_inclusion.specs.Proposed.{IsFirstUnknown};
+ghost use Rattle.dia_compat.specs.Proposed.{IsFirstUnknown};
 ghost use Rattle.dia_upgrades.specs.Asking.{AreCommands};
 ghost use Rattle.dia_upgrades.specs.Places.{IsEachNew, asked_places};
 

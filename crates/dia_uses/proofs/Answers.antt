@@ -15,7 +15,8 @@ use Rattle.dia_report.specs.declared.reporting.Answered.{Answered}
 use Rattle.dia_report.specs.Refusals.{RecordsOf, dictionary_line}
 use Rattle.dia_run.specs.Texts.{IsDictionaryText, IsNoDictionaryText}
 use Rattle.dia_uses.specs.Ended.{IsEnded, IsListed}
-use Rattle.dia_uses.specs.Outcome.{IsUsesOutcome, IsUsesText, all_lines, answered, nowhere_text, refused, refused_text, unknown_text}
+use Rattle.dia_refused_json.specs.Recording.{refused_text}
+use Rattle.dia_uses.specs.Outcome.{IsUsesOutcome, IsUsesText, all_lines, answered, nowhere_text, refused, unknown_text}
 use Rattle.dia_uses.proofs.FoundPlaces.{no_place, some_place}
 
 pub bad_dictionary : {E : Type 0} (json : Bool) (avps : List (List ℕ)) (inputs : Inputs) (why : BadInput) (r : Result Answered E)

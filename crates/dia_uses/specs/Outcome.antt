@@ -3,7 +3,6 @@ use Rattle.std.specs.Prelude.{◌≡◌, ℕ, Bool, true, false, List, ◌++◌,
 use Rattle.json.specs.Print.{quoted}
 use Rattle.dia_io.specs.declared.Exit.{Exit}
 use Rattle.dia_io.specs.declared.Exit.TheVariants as exits
-use Rattle.dia_io.specs.declared.Input.{Input}
 use Rattle.dia_io.specs.declared.Inputs.{Inputs}
 use Rattle.dia_wire.specs.declared.Key.{Key}
 use Rattle.dia_dict.specs.Dictionary.{Dictionary}
@@ -15,7 +14,7 @@ use Rattle.dia_report.specs.declared.bad_input.BadInput.{BadInput}
 use Rattle.dia_report.specs.Refusals.{bad_input_text}
 use Rattle.dia_run.specs.RefusedDictionaries.{RefusesFirst}
 use Rattle.dia_run.specs.Texts.{line, IsDictionaryText}
-use Rattle.dia_refused_json.specs.Refusals.{bad_input_json}
+use Rattle.dia_refused_json.specs.Recording.{refused_text}
 use Rattle.dia_uses.specs.Lines.{lines_of}
 
 -- the line where no AVP has a place
@@ -27,11 +26,6 @@ nowhere_text false = line (codes "no place")
 abbrev pub unknown_text : Bool → List ℕ → List ℕ
 unknown_text true word = line (codes "{\"error\":\"uses\",\"kind\":\"no AVP\",\"name\":" ++ quoted word ++ codes "}")
 unknown_text false word = line (codes "uses: no AVP " ++ word)
-
--- the line of a dictionary that is refused
-abbrev pub refused_text : Bool → Input → BadInput → List ℕ
-refused_text true input bad = bad_input_json input bad
-refused_text false input bad = line (bad_input_text bad)
 
 -- the lines of each AVP, in the order of the words
 abbrev pub all_lines : Bool → Dictionary → List Path → List Key → List ℕ

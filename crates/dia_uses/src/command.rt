@@ -9,15 +9,15 @@ ghost use Rattle.dia_places.specs.Records.{paths_of};
 ghost use Rattle.dia_uses.specs.Ended.{IsEnded, IsListed};
 ghost use Rattle.dia_uses.specs.Kinds.{AreWithin};
 ghost use Rattle.dia_uses.specs.Outcome.{IsUsesOutcome, IsUsesText, all_lines};
-ghost use Rattle.dia_uses.specs.Outcome.{nowhere_text, refused_text, unknown_text};
+ghost use Rattle.dia_uses.specs.Outcome.{nowhere_text, unknown_text};
 
-use crate::notes::{Tally, notes_of};
+use crate::notes::{Tally, notes_of, unknown_note};
 use crate::writing::push_lines;
 use dia_book::Book;
-use dia_io::{Exit, Input, Inputs, RunFault, Sink, put_all};
+use dia_io::{Exit, Inputs, RunFault, Sink, put_all};
 use dia_places::{Reached, all_reached, asked};
-use dia_refused_json::{bad_input_line, quoted};
-use dia_report::{Answered, BadInput, Refused, Report, Reported};
+use dia_refused_json::{quoted, refuse_as};
+use dia_report::{Answered, Refused, Report, Reported};
 use dia_run::read_dictionary;
 use dia_wire::Key;
 use std::alloc::{AllocError, Global};
@@ -65,7 +65,7 @@ fn text_for(
 {
     match read_dictionary(alloc, 1, &inputs.first) {
         Ok(first) => text_by(alloc, &first.book, json, avps, inputs, notes),
-        Err(Refused::Bad(bad)) => refuse(alloc, json, &inputs.first, bad),
+        Err(Refused::Bad(bad)) => refuse_as(alloc, json, &inputs.first, bad),
         Err(Refused::NoMemory) => Err(AllocError),
     }
 }
@@ -99,7 +99,17 @@ fn answer<B: Book>(
 {
     match asked(alloc, book, avps)? {
         Ok(keys) => uses(alloc, book, json, &keys, notes),
-        Err(word) => unknown(alloc, json, word),
+        Err(word) => {
+            note_unknown(alloc, book, word, notes);
+            unknown(alloc, json, word)
+        }
+    }
+}
+
+/// Says on standard error what is meant by the word, if there is memory for it.
+fn note_unknown<B: Book>(alloc: Global, book: &B, word: &str, notes: &mut String) {
+    if let Ok(said) = unknown_note(alloc, book, word) {
+        *notes = said;
     }
 }
 
@@ -212,30 +222,4 @@ fn unknown_object(alloc: Global, word: &str) -> Result<String, AllocError>
     text.push_str(name.as_str())?;
     text.push_str("}\n")?;
     Ok(text)
-}
-
-/// The answer where the dictionary is refused.
-fn refuse(alloc: Global, json: bool, input: &Input, bad: BadInput) -> Result<Answered, AllocError>
-    ensures text { IfOk result (λ a. string_bytes a.text ≡ refused_text json input.now bad) }
-    ensures exit { IfOk result (λ a. a.exit ≡ Exit.Bad) }
-{
-    let text = refused_line(alloc, json, input, &bad)?;
-    let exit = Exit::Bad;
-    let report = Report::Refused(bad);
-    Ok(Answered { text, exit, report })
-}
-
-fn refused_line(
-    alloc: Global,
-    json: bool,
-    input: &Input,
-    bad: &BadInput,
-) -> Result<String, AllocError>
-    ensures { IfOk result (λ text. string_bytes text ≡ refused_text json input.now bad.now) }
-{
-    if json {
-        bad_input_line(alloc, input, bad)
-    } else {
-        format!(in alloc; "{bad}\n")
-    }
 }

@@ -2,6 +2,7 @@
 
 use crate::writing::{Counts, avp_words};
 use dia_book::Book;
+use dia_explain_places::{Note, nearest_name};
 use dia_wire::Key;
 use std::alloc::{AllocError, Global};
 
@@ -23,8 +24,62 @@ pub(crate) fn notes_of<B: Book>(
         let avp = avp_words(alloc, book, tally.key)?;
         notes.push_str(avp.as_str())?;
         push_counts(&mut notes, tally.counts)?;
+        push_same_code(&mut notes, book, tally.key)?;
     }
     Ok(notes)
+}
+
+/// Adds the AVP that has the code of an unknown AVP without a vendor, and a vendor.
+fn push_same_code<B: Book>(out: &mut String, book: &B, key: Key) -> Result<(), AllocError> {
+    if key.vendor != 0 || book.avp(key).is_some() {
+        return Ok(());
+    }
+    for index in 0..book.entries() {
+        let entry = book.entry_at(index);
+        let Key { code, vendor } = book.entry_key(entry);
+        if code == key.code {
+            let name = book.entry_name(entry);
+            return write!(out, "hint: {code}:{vendor} is {name}\n");
+        }
+    }
+    Ok(())
+}
+
+/// What is meant by a word that names no AVP: a command, or the AVP with the nearest name.
+pub(crate) fn unknown_note<B: Book>(
+    alloc: Global,
+    book: &B,
+    word: &str,
+) -> Result<String, AllocError> {
+    let mut note = Note::new(alloc);
+    if is_command(book, word) {
+        note.put_all(&[
+            "hint: ",
+            word,
+            " is a command there, and AVPs are asked for\n",
+        ]);
+    } else if let Some(near) = nearest_name(word, &names(alloc, book)?) {
+        note.put_all(&["hint: did you mean ", near, "?\n"]);
+    }
+    note.finish()
+}
+
+fn is_command<B: Book>(book: &B, word: &str) -> bool {
+    for index in 0..book.commands() {
+        if book.def(book.command_at(index)).name.as_str() == word {
+            return true;
+        }
+    }
+    false
+}
+
+/// The names of all AVPs.
+fn names<B: Book>(alloc: Global, book: &B) -> Result<Vec<&str>, AllocError> {
+    let mut names = Vec::new(alloc);
+    for index in 0..book.entries() {
+        names.push(book.entry_name(book.entry_at(index)))?;
+    }
+    Ok(names)
 }
 
 fn push_counts(out: &mut String, counts: Counts) -> Result<(), AllocError> {

@@ -54,7 +54,7 @@ fn has_answer(
     assert_eq!(rt; found, answer, "{head}");
     let exit = ended.map(|reported| reported.exit.status()).unwrap_or(9);
     assert_eq!(rt; digit(exit), status, "{head}");
-    assert_eq!(rt; notes.is_empty(), exit == 2, "{head}");
+    assert!(rt; exit == 2 || !notes.is_empty(), "{head}");
 }
 
 fn digit(status: u8) -> &'static str {

@@ -1,5 +1,6 @@
 """Tests of the package, for `python3 -m unittest`. Messages and offsets are counted by hand."""
 
+import copy
 import gc
 import os
 import pathlib
@@ -45,6 +46,29 @@ class Checks(unittest.TestCase):
         self.assertIs(book.check(report(1) + b"\0").outcome, Outcome.TRAILING)
         with self.assertRaises(ValueError):
             book.show(b"\2" + report(7)[1:])
+
+    def test_fields(self):
+        verdict = Dictionary(USAGE).check(report(1, 2, 3))
+        self.assertEqual(verdict, (Outcome.FAULT, None, 5009, 44, "too-many", "Usage"))
+        self.assertEqual((hash(verdict), verdict), (hash(pickle.loads(pickle.dumps(verdict))), pickle.loads(pickle.dumps(verdict))))
+        with self.assertRaises(AttributeError):
+            verdict.code = 5008
+
+    def test_copies(self):
+        book = Dictionary(USAGE)
+        for copied in (copy.copy(book), copy.deepcopy(book)):
+            copied.close()
+            with self.assertRaises(ValueError):
+                copied.check(report(1))
+        self.assertTrue(book.check(report(1)))
+        peer = Peer(Role.RESPONDER, "a", "b", [Application(1)])
+        for owner in (book.stream(), peer):
+            for copies in (copy.copy, copy.deepcopy, pickle.dumps):
+                with self.assertRaises(TypeError):
+                    copies(owner)
+        self.assertIs(peer.state, State.IDLE)
+        with self.assertRaises(TypeError):
+            pickle.dumps(book)
 
     def test_options(self):
         book = Dictionary(USAGE + " [ AVP ]")
@@ -171,7 +195,7 @@ class Dictionaries(unittest.TestCase):
         with self.assertRaises(wittalen.DictionaryError) as caught:
             Dictionary("; \u00e4\nG ::= < AVP Header: 3 > { X }\n")
         # 26 characters of the second line come before X
-        self.assertEqual([str(fault) for fault in caught.exception.faults], ["2:27: undefined name G X"])
+        self.assertEqual([str(fault) for fault in caught.exception.faults], ["2:27: undefined-name G X"])
         self.assertEqual(wittalen.faults(USAGE), [])
         # no character of UTF-8 begins with this byte
         self.assertEqual([str(fault) for fault in wittalen.faults(b"; \xff")], ["1:3: not text"])
@@ -198,6 +222,11 @@ class Dictionaries(unittest.TestCase):
             first.write_text("%avp Usage 9002 Unsigned32 any ; a comment")
             second.write_text("<Report> ::= < Diameter Header: 302, REQ > { Usage }")
             self.assertTrue(Dictionary.open(first, second).check(report(1)))
+            # the text ends on its first line
+            first.write_text("xx")
+            with self.assertRaises(wittalen.DictionaryError) as caught:
+                Dictionary.open(first)
+            self.assertEqual(caught.exception.faults[0].line, 1)
 
     def test_parts(self):
         book = Dictionary(USAGE + "\n%avp B 3 vendor 10415 Grouped must\nB ::= < AVP Header: 3 10415 > *[ Usage ]")
@@ -221,12 +250,12 @@ class Dictionaries(unittest.TestCase):
 
     def test_many_faults(self):
         faults = wittalen.faults("".join(f"%avp A {number} Time any ; \u00e4\n" for number in range(16_000)))
-        self.assertEqual([str(faults[0]), str(faults[-1])], ["2:6: duplicate name A", "16000:6: duplicate name A"])
+        self.assertEqual([str(faults[0]), str(faults[-1])], ["2:6: duplicate-name A", "16000:6: duplicate-name A"])
 
     def test_pickled(self):
         (fault,) = wittalen.faults(NARROW + " [ X ]")
         again = pickle.loads(pickle.dumps(wittalen.DictionaryError([fault])))
-        self.assertEqual((again.faults, str(again)), ([fault], "2:56: undefined name Report X"))
+        self.assertEqual((again.faults, str(again)), ([fault], "2:56: undefined-name Report X"))
         again = pickle.loads(pickle.dumps(wittalen.InputError("syntax", 2)))
         self.assertEqual((again.kind, again.line), ("syntax", 2))
 
@@ -400,9 +429,14 @@ class Numbers(unittest.TestCase):
     def test_words(self):
         reasons = {word.upper().replace("-", "_"): number for number, word in enumerate(dictionaries.REASONS)}
         self.assertEqual(reasons, self.numbers("DIA_R_VERSION"))
-        kinds = {word.upper().replace(" ", "_"): number for number, word in dictionaries.KINDS.items()}
-        self.assertEqual(kinds, self.numbers("DIA_NOT_TEXT"))
+        kinds = {dictionaries.kind_of(number) for number in self.numbers("DIA_NOT_TEXT").values()}
+        self.assertTrue({"not text", "syntax", "limit", "duplicate-name", "no command"} < kinds)
+        self.assertEqual(dictionaries.kind_of(99), "kind 99")
         self.assertEqual(list(range(len(dictionaries.FORMATS) + 1)), list(self.numbers("DIA_F_UNKNOWN").values()))
+
+    def test_version(self):
+        (version,) = re.findall(r"(?m)^Version: (.*)$", HEADER.with_name("dia.pc.in").read_text())
+        self.assertEqual(wittalen.__version__, version)
 
     def test_enums(self):
         firsts = {

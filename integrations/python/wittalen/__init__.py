@@ -15,6 +15,8 @@ from .dictionaries import (
 from .peers import RELAY, Application, Cause, Output, Peer, Role, State, Timer, Why
 from .upgrades import Comparison, InputError, Sends, Upgrade, breaking, compare
 
+__version__ = "1.0.0"
+
 __all__ = [
     "RELAY", "Answer", "Application", "Avp", "Cause", "Class", "Command", "Comparison", "Dictionary", "DictionaryError", "Entry",
     "Fault", "Flag", "Form", "InputError", "Outcome", "Output",

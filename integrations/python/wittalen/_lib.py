@@ -12,6 +12,7 @@ from typing import Any, Optional, TypeVar
 ABI_VERSION = 1
 OK, REFUSED, NONE, NO_MEMORY, NO_ROOM, IS_OPEN, IS_CLOSED, BAD_ARGUMENT, OUTPUTS_LEFT, SPENT = range(10)
 MAX_NAME = 128
+MAX_WORD = 24
 ANY_LEVELS = 0xFFFFFFFF
 
 
@@ -110,6 +111,7 @@ CALLS: dict[str, tuple[Any, ...]] = {
     "faults_get": (H, S, c.POINTER(RawFault)),
     "faults_close": (H,),
     "line_column": (B, S, S, SIZE, SIZE),
+    "kind_word": (U, B, S, SIZE),
     "dict_commands": (H, SIZE),
     "dict_command": (H, S, c.POINTER(RawCommand)),
     "dict_avps": (H, SIZE),
@@ -236,6 +238,16 @@ class Owner:
     def __del__(self) -> None:
         if hasattr(self, "_handle"):
             self.close()
+
+    def __copy__(self) -> Any:
+        """A copy would own the same handle, and close it."""
+        raise TypeError(f"a {type(self).__name__} can't be copied: it has a state of its own")
+
+    def __deepcopy__(self, memo: Any) -> Any:
+        return self.__copy__()
+
+    def __reduce__(self) -> Any:
+        raise TypeError(f"a {type(self).__name__} can't be pickled: pickle what it was made of")
 
 
 class Text(Owner):

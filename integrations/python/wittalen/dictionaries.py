@@ -7,8 +7,10 @@ import json
 import os
 from dataclasses import dataclass
 from enum import IntEnum
+from functools import lru_cache
 from itertools import accumulate
-from typing import Any, Iterable, Iterator, Optional, Union
+from struct import Struct
+from typing import Any, Iterable, Iterator, NamedTuple, Optional, Union
 
 from . import _lib
 from ._lib import Owner, RawVerdict, Text, lib, octets, require, text_octets, u32
@@ -17,18 +19,18 @@ REASONS = (
     "version", "length", "bits", "command", "application", "proxiable", "avp-length", "unknown", "m-bit", "missing",
     "not-allowed", "too-many", "leaf-length", "leaf-value", "depth",
 )  # fmt: skip
-"""The reasons of docs/FAULTS.md, by their numbers in dia.h."""
-KINDS = {
-    0: "not text", 1: "syntax", 2: "number", 3: "limit", 10: "too many parts", 11: "duplicate name", 12: "no group format",
-    13: "header mismatch", 14: "duplicate key", 15: "duplicate command", 16: "undefined name", 17: "repeated slot",
-    18: "min over max", 19: "required min", 20: "optional min", 30: "no commands", 31: "no command",
-}  # fmt: skip
-"""The kinds of problems, by their numbers in dia.h. A later library may have more of both."""
+"""The reasons of docs/FAULTS.md, by their numbers in dia.h. A later library may have more."""
+SUBJECTS = {0: None, 2: "AVP"}
+"""The subjects of faults that are no AVP of one code and vendor: none, and the AVPs that no rule lists."""
 FORMATS = (
     "OctetString", "Integer32", "Integer64", "Unsigned32", "Unsigned64", "Float32", "Float64", "Grouped", "Address", "Time",
     "UTF8String", "DiameterIdentity", "DiameterURI", "Enumerated", "IPFilterRule", "QoSFilterRule",
 )  # fmt: skip
 """The data formats of docs/FORMATS.md, from number 1 of dia.h on."""
+
+
+WORDS = Struct("=8I")
+"""The fields of a RawVerdict, which are all numbers of 32 bits."""
 
 
 class Outcome(IntEnum):
@@ -37,8 +39,7 @@ class Outcome(IntEnum):
     VALID, FAULT, TRUNCATED, TRAILING = range(4)
 
 
-@dataclass(frozen=True)
-class Verdict:
+class Verdict(NamedTuple):
     """The verdict on a message; true where it is valid. As text it is the line of `diacmd check --lines`.
 
     A valid message has `command`, the command's name. A fault has `code`, its Result-Code (RFC 6733 section 7.1); `offset`, in bytes
@@ -165,6 +166,7 @@ class Dictionary(Owner):
     def __init__(self, text: Union[str, bytes, None] = None):
         super().__init__()
         self._names: dict[Any, str] = {}
+        self._valid: dict[int, Verdict] = {}
         if text is None:
             require(lib.dia_dict_open_base(self._handle))
             return
@@ -176,19 +178,27 @@ class Dictionary(Owner):
 
     @classmethod
     def open(cls, path: Union[str, os.PathLike[str]], *more: Union[str, os.PathLike[str]]) -> Dictionary:
-        """The dictionary of the texts of these files, one after the other. Lines of its faults count through all of them."""
-        texts = []
+        """The dictionary of the texts of these files, one after the other, each on lines of its own. Lines of its faults count
+        through all of them."""
+        joined = b""
         for each in (path, *more):
             with open(each, "rb") as file:
-                texts.append(file.read())
-        return cls(b"".join(text if text.endswith(b"\n") or not text else text + b"\n" for text in texts))
+                joined += (b"\n" if joined and not joined.endswith(b"\n") else b"") + file.read()
+        return cls(joined)
 
     def share(self) -> Dictionary:
         """The same dictionary with a handle of its own, which takes no time. It stays open when this one is closed."""
         other = Dictionary.__new__(Dictionary)
-        other._handle, other._names = _lib.Handle(), self._names
+        other._handle, other._names, other._valid = _lib.Handle(), self._names, self._valid
         require(lib.dia_dict_share(self._handle, other._handle))
         return other
+
+    def __copy__(self) -> Dictionary:
+        """As `share`: a dictionary doesn't change."""
+        return self.share()
+
+    def __deepcopy__(self, memo: Any) -> Dictionary:
+        return self.share()
 
     def commands(self) -> list[Command]:
         """The commands, in the dictionary's order."""
@@ -233,7 +243,7 @@ class Dictionary(Owner):
         data = b"".join(parts)
         policy = bool(refuse_unknown), levels_of(levels)
         require(lib.dia_check_many(self._handle, *policy, data, len(data), ends, len(parts), raws, len(parts)))
-        return [self._verdict(raw) for raw in raws]
+        return [self._verdict_of(*words) for words in WORDS.iter_unpack(raws)]
 
     def answer(
         self, message: bytes, host: str, realm: str, *, refuse_unknown: bool = False, levels: Optional[int] = None
@@ -299,15 +309,22 @@ class Dictionary(Owner):
         return Stream(self, refuse_unknown, levels)
 
     def _verdict(self, raw: RawVerdict) -> Verdict:
-        outcome = Outcome(raw.outcome)
-        if outcome is Outcome.VALID:
-            return Verdict(outcome, self._name(lib.dia_command_name, (raw.command,)))
-        if outcome is not Outcome.FAULT:
-            return Verdict(outcome)
-        subjects = {0: None, 2: "AVP"}
-        avp = subjects[raw.subject] if raw.subject in subjects else self._name(lib.dia_avp_name, (raw.avp_code, raw.avp_vendor))
-        reason = REASONS[raw.reason] if raw.reason < len(REASONS) else f"reason-{raw.reason}"
-        return Verdict(outcome, None, raw.code, raw.place, reason, avp)
+        return self._verdict_of(*WORDS.unpack_from(raw))
+
+    def _verdict_of(
+        self, outcome: int, command: int, code: int, offset: int, reason: int, subject: int, avp_code: int, avp_vendor: int
+    ) -> Verdict:
+        """The verdict with these fields of a RawVerdict."""
+        if outcome == Outcome.VALID:
+            known = self._valid.get(command)
+            if known is None:
+                known = self._valid[command] = Verdict(Outcome.VALID, self._name(lib.dia_command_name, (command,)))
+            return known
+        if outcome != Outcome.FAULT:
+            return Verdict(Outcome(outcome))
+        avp = SUBJECTS[subject] if subject in SUBJECTS else self._name(lib.dia_avp_name, (avp_code, avp_vendor))
+        word = REASONS[reason] if reason < len(REASONS) else f"reason-{reason}"
+        return Verdict(Outcome.FAULT, None, code, offset, word, avp)
 
     def _name(self, look_up: Any, key: tuple[int, ...]) -> str:
         name = self._names.get(key)
@@ -433,8 +450,12 @@ def entry_of(raw: _lib.RawEntry) -> Entry:
     return Entry(name_in(raw), raw.code, raw.vendor, FORMATS[raw.format - 1], flags[raw.mandatory])
 
 
+@lru_cache(maxsize=None)
 def kind_of(number: int) -> str:
-    return KINDS.get(number, f"kind {number}")
+    """The word of a kind of problem, as answers in JSON have it (docs/JSON.md)."""
+    room, count = c.create_string_buffer(_lib.MAX_WORD), c.c_size_t()
+    status = lib.dia_kind_word(number, room, _lib.MAX_WORD, count)
+    return room.raw[: count.value].decode() if status == _lib.OK else f"kind {number}"
 
 
 def levels_of(levels: Optional[int]) -> int:

@@ -14,9 +14,10 @@ from .dictionaries import Dictionary, kind_of
 
 class Sends(IntEnum):
     """Which messages a side sends that follows its dictionary: with AVPs that it doesn't know, where a rule accepts any; with those
-    that it knows; or with those that a rule of their level lists."""
+    that it knows; with those that a rule of their level lists; or with these, and where a wildcard is all that a level allows, those
+    that it knows."""
 
-    ANY, KNOWN, LISTED = range(3)
+    ANY, KNOWN, LISTED, FILLED = range(4)
 
 
 @dataclass(frozen=True)

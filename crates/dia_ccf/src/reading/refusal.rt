@@ -3,13 +3,18 @@ ghost use Rattle.std.specs.Prelude.{◌≡◌};
 ghost use Rattle.dia_ccf.specs.declared.reading.refusal.Refusal.TheVariants.{NoMemory};
 
 use std::alloc::{AllocError, AllocFailed};
+use thiserror::Error;
 
 /// Why the token ahead is refused.
-#[derive(Clone, Copy)]
+#[derive(Clone, Copy, Debug, Error)]
 pub(crate) enum Refusal {
+    #[error("the token is not expected here")]
     Syntax,
+    #[error("the number is out of range")]
     Number,
+    #[error("the name is too long")]
     Limit,
+    #[error("out of memory")]
     NoMemory,
 }
 

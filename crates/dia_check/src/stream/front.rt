@@ -41,6 +41,12 @@ impl Front {
     pub(crate) fn take_from(&mut self, piece: &[u8])
         ensures { front_bytes self.new ≡ take 20 (front_bytes self.old ++ piece.now) }
     {
+        if self.count == 0 && piece.len() >= ROOM {
+            // so many bytes are copied without a call
+            self.bytes.copy_from_slice(&piece[..ROOM]);
+            self.count = ROOM;
+            return;
+        }
         let taken = piece.len().min(ROOM - self.count);
         let end = self.count + taken;
         let bytes = &mut self.bytes[..];

@@ -10,40 +10,29 @@ ghost use Rattle.dia_check.specs.Reading.{HasSeen};
 ghost use Rattle.dia_check.specs.Streams.{IsSpent, Denotes, dictionary_of};
 
 use crate::basis::Basis;
-use crate::fault::{Refusal, Selected};
 use crate::open_levels::OpenLevels;
 use crate::stream::Stream;
-use crate::stream::front::Front;
 use crate::stream::parts::{DataPart, HeadPart, Part};
 use crate::stream::stages::{Body, Stage};
 use dia_book::{Book, DefId};
 use dia_data::{LeafState, SeenData};
 use dia_terms::{Levels, Unknown};
 use dia_wire::Key;
-use std::alloc::Global;
 
 /// What a stream retains, apart from its dictionary: it goes on where it stopped, with the same one.
 ///
 /// It borrows nothing, so that a caller can hold it next to the dictionary that it belongs to.
 #[derive(Drop)]
 pub struct Paused {
-    alloc: Global,
     unknown: Unknown,
     levels: Levels,
     taken: usize,
     wanted: usize,
-    stage: PausedStage,
+    body: PausedBody,
+    stage: Stage,
 }
 
-/// A stage, apart from the dictionary.
-#[derive(Drop)]
-pub(crate) enum PausedStage {
-    Header(Front),
-    InBody(PausedBody),
-    Over(Result<Selected, Refusal>),
-    NoMemory,
-}
-
+/// A body, apart from the dictionary.
 #[derive(Drop)]
 pub(crate) struct PausedBody {
     def: DefId,
@@ -75,12 +64,12 @@ impl<'a, B: Book> Stream<'a, B> {
         ensures spent { WasSpent result ↔ IsSpent self.entry }
     {
         Paused {
-            alloc: self.alloc,
             unknown: self.basis.unknown,
             levels: self.basis.levels,
             taken: self.taken,
             wanted: self.wanted,
-            stage: pause_stage(self.stage),
+            body: pause_body(self.body),
+            stage: self.stage,
         }
     }
 }
@@ -96,7 +85,6 @@ impl Paused {
         ensures spent { IsSpent result ↔ WasSpent self }
     {
         Stream {
-            alloc: self.alloc,
             basis: Basis {
                 book,
                 unknown: self.unknown,
@@ -104,24 +92,20 @@ impl Paused {
             },
             taken: self.taken,
             wanted: self.wanted,
-            stage: resume_stage(book, self.stage),
+            body: resume_body(book, self.body),
+            stage: self.stage,
         }
     }
 }
 
-/// A stage without the dictionary.
-fn pause_stage(stage: Stage<'_>) -> PausedStage
-    ensures { (d : Dictionary) → IsPauseOf d stage.entry result }
+/// A body without the dictionary.
+fn pause_body(body: Body<'_>) -> PausedBody
+    ensures { (d : Dictionary) → IsPauseOf d body.entry result }
 {
-    match stage {
-        Stage::Header(front) => PausedStage::Header(front),
-        Stage::InBody(body) => PausedStage::InBody(PausedBody {
-            def: body.def,
-            open_levels: body.open_levels,
-            part: pause_part(body.part),
-        }),
-        Stage::Over(answer) => PausedStage::Over(answer),
-        Stage::NoMemory => PausedStage::NoMemory,
+    PausedBody {
+        def: body.def,
+        part: pause_part(body.part),
+        open_levels: body.open_levels,
     }
 }
 
@@ -152,19 +136,14 @@ fn pause_leaf(leaf: Option<LeafState<'_>>) -> Option<SeenData>
     }
 }
 
-/// A stage with the dictionary.
-fn resume_stage<'a, B: Book>(book: &'a B, stage: PausedStage) -> Stage<'a>
-    ensures { IsResumeOf (B.meaning book.now) stage result }
+/// A body with the dictionary.
+fn resume_body<'a, B: Book>(book: &'a B, body: PausedBody) -> Body<'a>
+    ensures { IsResumeOf (B.meaning book.now) body result }
 {
-    match stage {
-        PausedStage::Header(front) => Stage::Header(front),
-        PausedStage::InBody(body) => Stage::InBody(Body {
-            def: body.def,
-            open_levels: body.open_levels,
-            part: resume_part(book, body.part),
-        }),
-        PausedStage::Over(answer) => Stage::Over(answer),
-        PausedStage::NoMemory => Stage::NoMemory,
+    Body {
+        def: body.def,
+        part: resume_part(book, body.part),
+        open_levels: body.open_levels,
     }
 }
 

@@ -18,7 +18,7 @@ Taken line program quiet form = (rows : List Row) × IsTaken line program (form_
 
 program_taken : (line : App) (program : Text) (quiet : Bool) (form : Form) → IsProgram line → is_plain_form form ≡ true → Taken line program quiet form
 program_taken line program quiet form is plain =
-    let taken = form_taken is.policies is.senders is.two is.three program quiet form plain in
+    let taken = form_taken is.policies is.senders is.two is.four program quiet form plain in
     subst (λ (l : App). Taken l program quiet form) (sym is.shape) (taken.0, taken.1, found_says is.policies is.senders quiet taken.0 form taken.2)
 
 none_among : {X : Type 0} (kinds : Kinds) → kinds ≡ [] → (kind : ErrorKind) → IsAmong kind kinds → X

@@ -10,7 +10,7 @@ use Rattle.clap.proofs.OnLiterals.{clap_on_literals}
 use Rattle.dia_io.specs.declared.Command.TheVariants as command
 use Rattle.dia_cli.specs.declared.task.Task.{Task}
 use Rattle.dia_cli.specs.declared.task.Task.TheVariants.{Whole, Make, ShowText, ShowNamed, ShowLines, Breaking, CheckLines, RefuteLines, CheckStream, CheckAll, Answer, AnswerLines, Follow, Mask, Uses, Diff, Lint, Examples}
-use Rattle.dia_terms.specs.declared.Sends.TheVariants.{Any, Known, Listed}
+use Rattle.dia_terms.specs.declared.Sends.TheVariants.{Any, Known, Filled, Listed}
 use Rattle.dia_terms.specs.declared.Unknown.{Unknown}
 use Rattle.dia_terms.specs.declared.Unknown.TheVariants.{Kept, Refused}
 use Rattle.dia_cli.specs.Asking.{line_shape}
@@ -35,51 +35,51 @@ abbrev pub all_options : Bool → Form → List Slot
 all_options quiet form = flag (codes "quiet") quiet ∷ form_options form
 
 module _ (policies senders : Bor (List (Bor Text))) (two : texts policies.now ≡ policy_word Kept ∷ policy_word Refused ∷ [])
-    (three : texts senders.now ≡ sends_word Any ∷ sends_word Known ∷ sends_word Listed ∷ []) where
+    (four : texts senders.now ≡ sends_word Any ∷ sends_word Known ∷ sends_word Filled ∷ sends_word Listed ∷ []) where
   pub form_fits : (quiet : Bool) (form : Form) → IsRow (shape policies senders (form_row form)) (all_options quiet form) (form_inputs form)
   form_fits quiet (show recording dictionary message) =
-      row_fits policies senders two three show_row _ _ refl (refl, tt, (refl, tt, (refl, tt, (refl, tt, (refl, tt, (refl, tt, (refl, tt, tt))))))) (record { by_index = refl; by_id = refl; next = refl }, tt) refl refl refl refl
+      row_fits policies senders two four show_row _ _ refl (refl, tt, (refl, tt, (refl, tt, (refl, tt, (refl, tt, (refl, tt, (refl, tt, tt))))))) (record { by_index = refl; by_id = refl; next = refl }, tt) refl refl refl refl
   form_fits quiet (make dictionary values written) =
-      row_fits policies senders two three make_row _ _ refl (refl, tt, (refl, tt, (refl, tt, tt))) (record { by_index = refl; by_id = refl; next = refl }, tt) refl refl refl refl
+      row_fits policies senders two four make_row _ _ refl (refl, tt, (refl, tt, (refl, tt, tt))) (record { by_index = refl; by_id = refl; next = refl }, tt) refl refl refl refl
   form_fits quiet (check manner json unknown levels dictionary message) =
-      row_fits policies senders two three check_row _ _ refl (refl, tt, (refl, policy_passes policies senders two three unknown, (refl, tt, (refl, tt, (refl, tt, (refl, tt, (refl, tt, tt)))))))
+      row_fits policies senders two four check_row _ _ refl (refl, tt, (refl, policy_passes policies senders two four unknown, (refl, tt, (refl, tt, (refl, tt, (refl, tt, (refl, tt, tt)))))))
       (record { by_index = refl; by_id = refl; next = refl }, (record { by_index = refl; by_id = refl; next = refl }, tt)) refl refl refl refl
-  form_fits quiet (render dictionary) = row_fits policies senders two three render_row _ _ refl (refl, tt, tt) (record { by_index = refl; by_id = refl; next = refl }, tt) refl refl refl refl
+  form_fits quiet (render dictionary) = row_fits policies senders two four render_row _ _ refl (refl, tt, tt) (record { by_index = refl; by_id = refl; next = refl }, tt) refl refl refl refl
   form_fits quiet (compare json unknown first second table) =
-      row_fits policies senders two three compare_row _ _ refl (refl, tt, (refl, policy_passes policies senders two three unknown, (refl, tt, tt)))
+      row_fits policies senders two four compare_row _ _ refl (refl, tt, (refl, policy_passes policies senders two four unknown, (refl, tt, tt)))
       (record { by_index = refl; by_id = refl; next = refl }, (record { by_index = refl; by_id = refl; next = refl }, (record { by_index = refl; by_id = refl; next = refl }, tt)))
       refl refl refl refl
   form_fits quiet (refute many json unknown levels first second message) =
-      row_fits policies senders two three refute_row _ _ refl (refl, tt, (refl, policy_passes policies senders two three unknown, (refl, tt, (refl, tt, (refl, tt, tt)))))
+      row_fits policies senders two four refute_row _ _ refl (refl, tt, (refl, policy_passes policies senders two four unknown, (refl, tt, (refl, tt, (refl, tt, tt)))))
       (record { by_index = refl; by_id = refl; next = refl }, (record { by_index = refl; by_id = refl; next = refl }, (record { by_index = refl; by_id = refl; next = refl }, tt)))
       refl refl refl refl
   form_fits quiet (propose json unknown first second name names) =
-      row_fits policies senders two three propose_row _ _ refl (refl, tt, (refl, policy_passes policies senders two three unknown, (refl, tt, tt)))
+      row_fits policies senders two four propose_row _ _ refl (refl, tt, (refl, policy_passes policies senders two four unknown, (refl, tt, tt)))
       (record { by_index = refl; by_id = refl; next = refl }, (record { by_index = refl; by_id = refl; next = refl }, (true, record { by_index = refl; by_id = refl; next = refl })))
       refl refl refl refl
   form_fits quiet (breaking json sends unknown messages once meaning allowed explained accepted first second names) =
-      row_fits policies senders two three breaking_row _ _ refl (refl, tt, (refl, policy_passes policies senders two three unknown, (refl, sender_passes policies senders two three sends, (refl, tt, (refl, tt, (refl, tt, (refl, tt, (refl, tt, (refl, tt, (refl, tt, tt))))))))))
+      row_fits policies senders two four breaking_row _ _ refl (refl, tt, (refl, policy_passes policies senders two four unknown, (refl, sender_passes policies senders two four sends, (refl, tt, (refl, tt, (refl, tt, (refl, tt, (refl, tt, (refl, tt, (refl, tt, tt))))))))))
       (record { by_index = refl; by_id = refl; next = refl }, (record { by_index = refl; by_id = refl; next = refl }, (false, record { by_index = refl; by_id = refl; next = refl })))
       refl refl refl refl
   form_fits quiet (answer many unknown levels host realm dictionary message) =
-      row_fits policies senders two three answer_row _ _ refl (refl, tt, (refl, policy_passes policies senders two three unknown, (refl, tt, (refl, tt, (refl, tt, (refl, tt, tt))))))
+      row_fits policies senders two four answer_row _ _ refl (refl, tt, (refl, policy_passes policies senders two four unknown, (refl, tt, (refl, tt, (refl, tt, (refl, tt, tt))))))
       (record { by_index = refl; by_id = refl; next = refl }, (record { by_index = refl; by_id = refl; next = refl }, tt)) refl refl refl refl
   form_fits quiet (follow json middle judged unknown levels dictionary connection) =
-      row_fits policies senders two three follow_row _ _ refl (refl, tt, (refl, tt, (refl, tt, (refl, tt, (refl, policy_passes policies senders two three unknown, (refl, tt, (refl, tt, tt)))))))
+      row_fits policies senders two four follow_row _ _ refl (refl, tt, (refl, tt, (refl, tt, (refl, tt, (refl, policy_passes policies senders two four unknown, (refl, tt, (refl, tt, tt)))))))
       (record { by_index = refl; by_id = refl; next = refl }, tt) refl refl refl refl
   form_fits quiet (mask avps json dictionary messages) =
-      row_fits policies senders two three mask_row _ _ refl (refl, tt, (refl, tt, (refl, tt, (refl, tt, (refl, tt, tt)))))
+      row_fits policies senders two four mask_row _ _ refl (refl, tt, (refl, tt, (refl, tt, (refl, tt, (refl, tt, tt)))))
       (record { by_index = refl; by_id = refl; next = refl }, (record { by_index = refl; by_id = refl; next = refl }, tt)) refl refl refl refl
   form_fits quiet (uses json dictionary avp avps) =
-      row_fits policies senders two three uses_row _ _ refl (refl, tt, (refl, tt, tt)) (record { by_index = refl; by_id = refl; next = refl }, (true, record { by_index = refl; by_id = refl; next = refl })) refl refl refl refl
+      row_fits policies senders two four uses_row _ _ refl (refl, tt, (refl, tt, tt)) (record { by_index = refl; by_id = refl; next = refl }, (true, record { by_index = refl; by_id = refl; next = refl })) refl refl refl refl
   form_fits quiet (diff json sends unknown first second) =
-      row_fits policies senders two three diff_row _ _ refl (refl, tt, (refl, policy_passes policies senders two three unknown, (refl, sender_passes policies senders two three sends, (refl, tt, tt))))
+      row_fits policies senders two four diff_row _ _ refl (refl, tt, (refl, policy_passes policies senders two four unknown, (refl, sender_passes policies senders two four sends, (refl, tt, tt))))
       (record { by_index = refl; by_id = refl; next = refl }, (record { by_index = refl; by_id = refl; next = refl }, tt)) refl refl refl refl
   form_fits quiet (lint json unknown only except accepted dictionary) =
-      row_fits policies senders two three lint_row _ _ refl (refl, tt, (refl, policy_passes policies senders two three unknown, (refl, tt, (refl, tt, (refl, tt, (refl, tt, tt))))))
+      row_fits policies senders two four lint_row _ _ refl (refl, tt, (refl, policy_passes policies senders two four unknown, (refl, tt, (refl, tt, (refl, tt, (refl, tt, tt))))))
       (record { by_index = refl; by_id = refl; next = refl }, tt) refl refl refl refl
   form_fits quiet (examples layout unknown dictionary names) =
-      row_fits policies senders two three examples_row _ _ refl (refl, tt, (refl, policy_passes policies senders two three unknown, (refl, tt, (refl, tt, tt))))
+      row_fits policies senders two four examples_row _ _ refl (refl, tt, (refl, policy_passes policies senders two four unknown, (refl, tt, (refl, tt, tt))))
       (record { by_index = refl; by_id = refl; next = refl }, (false, record { by_index = refl; by_id = refl; next = refl })) refl refl refl refl
 
   -- the name of its command is that of its row

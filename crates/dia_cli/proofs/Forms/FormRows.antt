@@ -9,7 +9,7 @@ use Rattle.clap.specs.Walk.{Rule, Text, texts}
 use Rattle.clap.specs.declared.builder.value_parser.ValueParser.TheVariants as vp
 use Rattle.clap.proofs.WalkLemmas.{list_any-map}
 use Rattle.dia_terms.specs.declared.Sends.{Sends}
-use Rattle.dia_terms.specs.declared.Sends.TheVariants.{Any, Known, Listed}
+use Rattle.dia_terms.specs.declared.Sends.TheVariants.{Any, Known, Filled, Listed}
 use Rattle.dia_terms.specs.declared.Unknown.{Unknown}
 use Rattle.dia_terms.specs.declared.Unknown.TheVariants.{Kept, Refused}
 use Rattle.dia_cli.specs.Asking.{line_shape}
@@ -33,15 +33,16 @@ abbrev pub shape : Bor (List (Bor Text)) → Bor (List (Bor Text)) → CommandRo
 shape policies senders row = leaf_of (line_shape policies senders) (row_shape policies senders row)
 
 module _ (policies senders : Bor (List (Bor Text))) (two : texts policies.now ≡ policy_word Kept ∷ policy_word Refused ∷ [])
-    (three : texts senders.now ≡ sends_word Any ∷ sends_word Known ∷ sends_word Listed ∷ []) where
+    (four : texts senders.now ≡ sends_word Any ∷ sends_word Known ∷ sends_word Filled ∷ sends_word Listed ∷ []) where
   pub policy_passes : (unknown : Unknown) → Passes (Some (vp.Names policies)) (policy_given unknown)
   policy_passes Kept = refl
   policy_passes Refused = accepts_is policies (codes "refused") ∙ ap (λ (names : List Text). among names (codes "refused")) two
 
   pub sender_passes : (sends : Sends) → Passes (Some (vp.Names senders)) (sender_given sends)
   sender_passes Any = refl
-  sender_passes Known = accepts_is senders (codes "known") ∙ ap (λ (names : List Text). among names (codes "known")) three
-  sender_passes Listed = accepts_is senders (codes "listed") ∙ ap (λ (names : List Text). among names (codes "listed")) three
+  sender_passes Known = accepts_is senders (codes "known") ∙ ap (λ (names : List Text). among names (codes "known")) four
+  sender_passes Filled = accepts_is senders (codes "filled") ∙ ap (λ (names : List Text). among names (codes "filled")) four
+  sender_passes Listed = accepts_is senders (codes "listed") ∙ ap (λ (names : List Text). among names (codes "listed")) four
 
   pub row_fits : (row : CommandRow) (options inputs : List Slot) → (shape policies senders row).rules ≡ map (option_built policies senders) row.options ++ filled_from 1 (map input_rule row.inputs ++ help_rule ∷ [])
       → MatchOptions policies senders row.options options → FitInputs (shape policies senders row) 1 inputs → are_apart (options ++ inputs) [] ≡ true
@@ -54,7 +55,7 @@ module _ (policies senders : Bor (List (Bor Text))) (two : texts policies.now �
     defaults = subst HasFineDefaults (sym rules)
         (defaults_pass policies senders row.options row.inputs (
           accepts_is policies (codes "kept") ∙ ap (λ (names : List Text). among names (codes "kept")) two,
-          accepts_is senders (codes "any") ∙ ap (λ (names : List Text). among names (codes "any")) three,
+          accepts_is senders (codes "any") ∙ ap (λ (names : List Text). among names (codes "any")) four,
         ));
     given = given;
     no_help = no_help;

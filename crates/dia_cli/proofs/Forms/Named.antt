@@ -10,7 +10,7 @@ use Rattle.clap.specs.Walk.{Row, Text, first_of}
 use Rattle.clap.proofs.WalkLemmas.{both}
 use Rattle.dia_terms.specs.declared.Levels.{Levels}
 use Rattle.dia_terms.specs.declared.Sends.{Sends}
-use Rattle.dia_terms.specs.declared.Sends.TheVariants.{Any, Known, Listed}
+use Rattle.dia_terms.specs.declared.Sends.TheVariants.{Any, Known, Filled, Listed}
 use Rattle.dia_terms.specs.declared.Unknown.{Unknown}
 use Rattle.dia_terms.specs.declared.Unknown.TheVariants.{Kept, Refused}
 use Rattle.dia_cli.specs.Slots.{Slot, is_plain, is_plain_slot, number}
@@ -44,12 +44,19 @@ same_policy word Refused Refused one two = refl
 pub same_sender : (word : Option Text) (x y : Sends) → word ≡ Some (sends_word x) → word ≡ Some (sends_word y) → x ≡ y
 same_sender word Any Any one two = refl
 same_sender word Any Known one two = absurd cc
+same_sender word Any Filled one two = absurd cc
 same_sender word Any Listed one two = absurd cc
 same_sender word Known Any one two = absurd cc
 same_sender word Known Known one two = refl
+same_sender word Known Filled one two = absurd cc
 same_sender word Known Listed one two = absurd cc
+same_sender word Filled Any one two = absurd cc
+same_sender word Filled Known one two = absurd cc
+same_sender word Filled Filled one two = refl
+same_sender word Filled Listed one two = unlike (sends_word Filled) (sends_word Listed) refl (same_value word (sends_word Filled) (sends_word Listed) one two)
 same_sender word Listed Any one two = absurd cc
 same_sender word Listed Known one two = absurd cc
+same_sender word Listed Filled one two = unlike (sends_word Listed) (sends_word Filled) refl (same_value word (sends_word Listed) (sends_word Filled) one two)
 same_sender word Listed Listed one two = refl
 
 pub same_limit : (word levels : Option Text) (limit : Levels) → word ≡ levels → IsLimitOf word limit → IsLimitOf levels limit
@@ -75,6 +82,7 @@ policy_passes Refused = refl
 sender_passes : (sends : Sends) → is_sender (Some (sends_word sends)) ≡ true
 sender_passes Any = refl
 sender_passes Known = refl
+sender_passes Filled = refl
 sender_passes Listed = refl
 
 pub has_flag : (word : Option Text) (given : Bool) → word ≡ Some (flag_word given) → is_flag word ≡ true

@@ -3,7 +3,7 @@ use Rattle.std.proofs.Common.{◌≡◌, ◌∙◌, Bool, true, false, List, [],
 use Rattle.std.specs.Borrow.{Bor}
 use Rattle.std.specs.Prelude.{unwrap_or}
 use Rattle.clap.specs.Walk.{Row, Text, first_of, texts}
-use Rattle.dia_terms.specs.declared.Sends.TheVariants.{Any, Known, Listed}
+use Rattle.dia_terms.specs.declared.Sends.TheVariants.{Any, Known, Filled, Listed}
 use Rattle.dia_terms.specs.declared.Unknown.TheVariants.{Kept, Refused}
 use Rattle.dia_cli.specs.Apart.{mask_apart, show_apart}
 use Rattle.dia_cli.specs.Asking.{IsApart, IsCheckWithBoth, IsRequestOf, IsWithBoth, is_asked, line_shape}
@@ -20,13 +20,13 @@ use Rattle.dia_cli.proofs.Forms.Says.{all_are, first_is}
 use Rattle.dia_cli.proofs.Forms.Walked.{IsTaken}
 
 module _ (policies senders : Bor (List (Bor Text))) (two : texts policies.now ≡ policy_word Kept ∷ policy_word Refused ∷ [])
-    (three : texts senders.now ≡ sends_word Any ∷ sends_word Known ∷ sends_word Listed ∷ []) where
+    (four : texts senders.now ≡ sends_word Any ∷ sends_word Known ∷ sends_word Filled ∷ sends_word Listed ∷ []) where
   -- the words of a form are taken
   pub form_taken : (program : Text) (quiet : Bool) (form : Form) → is_plain_form form ≡ true
       → (rows : List Row) × IsTaken (line_shape policies senders) program (form_name form) (words_of quiet form) rows × Finds (shape policies senders (form_row form)) (all_options quiet form ++ form_inputs form) rows
   form_taken program quiet form plain =
-      row_taken (line_shape policies senders) program (form_name form) (shape policies senders (form_row form)) (all_options quiet form) (form_inputs form) refl (form_named policies senders two three form).1 (form_named policies senders two three form).0
-      (form_fits policies senders two three quiet form) plain
+      row_taken (line_shape policies senders) program (form_name form) (shape policies senders (form_row form)) (all_options quiet form) (form_inputs form) refl (form_named policies senders two four form).1 (form_named policies senders two four form).0
+      (form_fits policies senders two four quiet form) plain
 
 module _ (policies senders : Bor (List (Bor Text))) (quiet : Bool) (rows : List Row) where
   pub found_says : (form : Form) → Finds (shape policies senders (form_row form)) (all_options quiet form ++ form_inputs form) rows → Says quiet form rows

@@ -5,7 +5,7 @@ use Rattle.clap.specs.Simple.{Shape}
 use Rattle.clap.specs.Walk.{Row, Text, all_of, first_of}
 use Rattle.clap.specs.declared.parser.matches.ValueSource.TheVariants.{CommandLine, DefaultValue}
 use Rattle.dia_terms.specs.declared.Sends.{Sends}
-use Rattle.dia_terms.specs.declared.Sends.TheVariants.{Any, Known, Listed}
+use Rattle.dia_terms.specs.declared.Sends.TheVariants.{Any, Known, Filled, Listed}
 use Rattle.dia_terms.specs.declared.Unknown.{Unknown}
 use Rattle.dia_terms.specs.declared.Unknown.TheVariants.{Kept, Refused}
 use Rattle.dia_cli.specs.Slots.{Slot, policy_given, sender_given}
@@ -48,6 +48,7 @@ policy_found Refused = refl
 pub sender_found : (sends : Sends) → first_value (or_found (values_from CommandLine (option_values (sender_given sends))) (default (codes "any"))) ≡ Some (sends_word sends)
 sender_found Any = refl
 sender_found Known = refl
+sender_found Filled = refl
 sender_found Listed = refl
 
 pub text_found : (given : Option Text) (word : Text) → first_value (or_found (values_from CommandLine (option_values given)) (default word)) ≡ Some (unwrap_or given word)

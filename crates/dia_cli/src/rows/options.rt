@@ -24,7 +24,7 @@ pub(super) const LEVELS: OptionRow<'static> = OptionRow {
 pub(super) const SENDS: OptionRow<'static> = OptionRow {
     id: "sends",
     value: Value::Sender,
-    help: "Which AVPs the side of A sends: any that A allows, those that A knows, or those that a rule names",
+    help: "Which AVPs the side of A sends by a wildcard: any, those that A knows, these only where no other rule allows any, or none",
 };
 
 pub(super) const JSON: OptionRow<'static> = OptionRow {

@@ -1,5 +1,5 @@
 -- Places in lists.
-use Rattle.std.proofs.Common.{◌≡◌, ℕ, zero, suc, ◌+◌, ◌<◌, Bool, true, false, cond, List, [], ◌∷◌, ◌++◌, length, map, take, position, Option, Some, None, refl, sym, ap, ◌∙◌, arith}
+use Rattle.std.proofs.Common.{◌≡◌, ℕ, suc, ◌+◌, Bool, true, false, cond, List, [], ◌∷◌, ◌++◌, length, map, position, Option, Some, None, refl, sym, ap, ◌∙◌, arith}
 use Rattle.std.specs.Prelude.{slice_get}
 use Rattle.std.specs.List.{position_from}
 use Rattle.std.specs.Option.{option_map, option_or}
@@ -25,13 +25,6 @@ position-push p xs x =
     ∙ ap (λ k. option_or (position p xs) (cond (p x) (Some k) None)) (let e : 0 + length xs ≡ length xs = omega arith in e)
 
 -- ---- members
-
--- what is at a place of the front
-pub slice_get-take : {X : Type 0} (xs : List X) (n j : ℕ) (x : X) → slice_get (take n xs) j ≡ Some x → (slice_get xs j ≡ Some x) × (j < n)
-slice_get-take xs zero j x e = absurd (none-some x e)
-slice_get-take [] (suc n) j x e = absurd (none-some x e)
-slice_get-take (y ∷ ys) (suc n) zero x e = (e, omega arith)
-slice_get-take (y ∷ ys) (suc n) (suc j) x e = let r = slice_get-take ys n j x e in (r.0, omega (arith, r.1))
 
 pub image_at : {X Y : Type 0} (f : X → Y) (o : Option X) (y : Y) → option_map f o ≡ Some y → (x : X) × (o ≡ Some x) × (f x ≡ y)
 image_at f None y e = absurd (none-some y e)

@@ -1,28 +1,47 @@
--- Services: what commands are looked up by, but for the application, says the same as their headers.
-use Rattle.std.proofs.Common.{◌≡◌, ℕ, ◌+◌, ◌*◌, Bool, true, false, List, map, get_or, Option, Some, Result, Ok, Err, refl, sym, ap, ◌∙◌, subst, arith, inl, inr}
+-- Selectors and services: what commands are looked up by says the same as their headers.
+use Rattle.std.proofs.Common.{◌≡◌, ℕ, ◌+◌, ◌*◌, ◌<◌, ◌||◌, Bool, true, false, cond, List, [], ◌∷◌, length, map, take, position, get_or, Option, Some, refl, sym, ap, ◌∙◌, subst}
+use Rattle.std.proofs.Common.{arith, inl, inr, nat_eq}
 use Rattle.std.specs.Prelude.{◌≢◌, ◌==◌, ◌&&◌, All, slice_get}
-use Rattle.std.specs.List.Sorted.{IsNonDecreasing, IsBinarySearchResult}
-use Rattle.std.specs.Ordering.{nat_cmp}
-use Rattle.std.specs.Result.{is_ok}
 use Rattle.std.specs.List.{list_any}
-use Rattle.std.proofs.Props.{props}
-use mathlib.Core.Sum.{⊎_set}
-use Rattle.std.proofs.lemmas.Bool.{cases_lt, eq-eqb, ne_eqb}
+use Rattle.std.specs.Option.{option_eq}
+use Rattle.std.proofs.lemmas.Cmp.{nat_eq_equiv}
+use Rattle.std.proofs.lemmas.List.{map_more}
+use Rattle.std.proofs.lemmas.List.Folds.{list_any-append}
+use Rattle.std.proofs.lemmas.Bool.{eq-eqb, ne_eqb}
 use Rattle.std.proofs.lemmas.Bool.Decides.{eqb_tells}
-use Rattle.std.proofs.lemmas.List.{get_or_default}
-use Rattle.std.proofs.lemmas.List.Folds.{list_any_at, list_any_none}
-use Rattle.std.proofs.lemmas.List.Sorted.{searched}
 use Rattle.std.proofs.Math.Bool.{and-false}
 use Rattle.std.proofs.lemmas.Option.{slice_get_within, slice_get-get_or, get_or_from_slice_get}
 use Rattle.dia_book.specs.declared.Class.{Class}
 use Rattle.dia_book.specs.declared.Class.TheVariants.{Request, Answer, Error as Failure}
 use Rattle.dia_book.specs.declared.DefHead.{DefHead}
 use Rattle.dia_book.specs.declared.DefHead.TheVariants.{Group, Command, Error}
-use Rattle.dia_book.specs.Dictionary.{has_class, IsCommandHead}
+use Rattle.dia_book.specs.Dictionary.{has_class, is_command, IsCommandHead}
 use Rattle.dia_book.specs.declared.Definition.{Definition}
-use Rattle.dia_dict.specs.Selectors.{service, service_of}
+use Rattle.dia_dict.specs.Indexed.{command_place}
+use Rattle.dia_dict.specs.Selectors.{selector, selector_of, service, service_of}
+use Rattle.dia_dict.specs.SameSelectors.{same_selector}
 use Rattle.dia_dict.proofs.Indexing.Places.{place_of_image}
-use Rattle.dia_book.proofs.Lists.{list_any-map, map-agree}
+use Rattle.dia_book.proofs.Lists.{and_true, and_false, position-map, list_any-map, map-agree}
+
+-- ---- selectors
+
+pub and_false_left : (x z : Bool) → ((x && false) && z) ≡ false
+and_false_left true z = refl
+and_false_left false z = refl
+
+selector-is_command : (code : ℕ) (class : Class) (app : Option ℕ) (head : DefHead) → IsCommandHead head
+    → same_selector (selector code class app) (selector_of head) ≡ is_command code class app head
+selector-is_command code Request app (Command c Request a p) h = sym (and_true (code == c) (option_eq nat_eq app a))
+selector-is_command code Request app (Command c Answer a p) h = sym (and_false (code == c) (option_eq nat_eq app a))
+selector-is_command code Answer app (Command c Request a p) h = sym (and_false (code == c) (option_eq nat_eq app a))
+selector-is_command code Answer app (Command c Answer a p) h = sym (and_true (code == c) (option_eq nat_eq app a))
+selector-is_command code Failure app (Command c Request a p) h = sym (and_false_left (code == c) (option_eq nat_eq app a))
+selector-is_command code Failure app (Command c Answer a p) h = sym (and_false_left (code == c) (option_eq nat_eq app a))
+selector-is_command code class app (Command c Failure a p) h = absurd (h refl)
+selector-is_command code Request app (Error p) h = refl
+selector-is_command code Answer app (Error p) h = refl
+selector-is_command code Failure app (Error p) h = refl
+selector-is_command code class app (Group key) h = absurd h
 
 -- ---- numbers of services
 
@@ -48,18 +67,24 @@ service-has_class code Answer (Error p) h = ne_eqb (2 * code + 2) 0 (λ same. om
 service-has_class code Failure (Error p) h = refl
 service-has_class code class (Group key) h = absurd h
 
--- what `binary_search` finds among numbers in order
-pub searched-any : (xs : List ℕ) (x : ℕ) (r : Result ℕ ℕ) → IsNonDecreasing xs → IsBinarySearchResult (λ y. nat_cmp y x) xs r → is_ok r ≡ list_any (λ m. x == m) xs
-searched-any xs x (Ok i) rising h =
-    let s = searched xs x (Ok i) h (λ i j le below. rising i j 0 le below) in
-    sym (list_any_at (λ (m : ℕ). x == m) xs i 0 s.0 (eq-eqb x (get_or xs i 0) (sym s.1)))
-searched-any xs x (Err i) rising h =
-    let s = searched xs x (Err i) h (λ i j le below. rising i j 0 le below) in
-    sym (list_any_none (λ (m : ℕ). x == m) xs (λ k d below. ne_eqb x (get_or xs k d) (λ same. let is = get_or_default xs k d 0 below in
-    elim (cases_lt k i) [
-      | inl less ↦ let a = s.1 k less in absurd (omega (arith, same, is, a))
-      | inr le ↦ let a = s.2 k le below in absurd (omega (arith, same, is, a))
-    ])))
+-- a set gets the number of the next command
+one_more : (a b : Bool) → cond b true a ≡ (a || (b || false))
+one_more true true = refl
+one_more true false = refl
+one_more false true = refl
+one_more false false = refl
+
+pub served-more : (commands : List Definition) (i : ℕ) (d : Definition) → i < length commands → d ≡ get_or commands i d → (before after : List ℕ) (own : ℕ) → own ≡ service_of d.head
+    → ((n : ℕ) → list_any (λ (m : ℕ). n == m) before ≡ list_any (λ (m : ℕ). n == m) (map (λ (e : Definition). service_of e.head) (take i commands)))
+    → ((n : ℕ) → list_any (λ (m : ℕ). n == m) after ≡ cond (own == n) true (list_any (λ (m : ℕ). n == m) before))
+    → (n : ℕ) → list_any (λ (m : ℕ). n == m) after ≡ list_any (λ (m : ℕ). n == m) (map (λ (e : Definition). service_of e.head) (take (i + 1) commands))
+served-more commands i d within read before after own is h step n =
+    let number = λ (e : Definition). service_of e.head in
+    let others = list_any (λ (m : ℕ). n == m) (map number (take i commands)) in
+    step n ∙ (λ j. cond (nat_eq_equiv.symm own n j) true (h n j)) ∙ one_more others (n == own)
+    ∙ ap (λ (k : ℕ). others || ((n == k) || false)) (is ∙ ap number read)
+    ∙ sym (ap (list_any (λ (m : ℕ). n == m)) (map_more number commands i d within)
+    ∙ list_any-append (λ (m : ℕ). n == m) (map number (take i commands)) (number (get_or commands i d) ∷ []))
 
 -- ---- look-ups among headers
 
@@ -84,12 +109,19 @@ module _ (heads : List DefHead) (commands : All IsCommandHead heads) where
 
 -- ---- where commands are found
 
-pub option-prop : (a b : Option ℕ) → IsProp (a ≡ b)
-option-prop a b = hlevel (props, ⊎_set)
-
 module _ (ds : List Definition) (commands : All (λ (d : Definition). IsCommandHead d.head) ds) where
-  pub headed : All IsCommandHead (map (λ (d : Definition). d.head) ds)
+  headed : All IsCommandHead (map (λ (d : Definition). d.head) ds)
   headed = All-image (λ (d : Definition). d.head) IsCommandHead ds commands
+
+  -- the place of the command that a message's selector names
+  pub command_place-selected : (code : ℕ) (class : Class) (app : Option ℕ) → command_place same_selector ds (selector code class app)
+      ≡ position (λ (d : Definition). is_command code class app d.head) ds
+  command_place-selected code class app =
+      let heads = map (λ (d : Definition). d.head) ds in
+      let like = λ (head : DefHead). same_selector (selector code class app) (selector_of head) in
+      sym (position-map (λ (d : Definition). d.head) like ds) ∙ sym (position-map like (λ b. b) heads)
+      ∙ ap (position (λ b. b)) (agree heads headed like (is_command code class app) (selector-is_command code class app))
+      ∙ position-map (is_command code class app) (λ b. b) heads ∙ position-map (λ (d : Definition). d.head) (is_command code class app) ds
 
   pub service-found : (numbers : List ℕ) → ((n : ℕ) → list_any (λ (m : ℕ). n == m) numbers ≡ list_any (λ (m : ℕ). n == m) (map (λ (d : Definition). service_of d.head) ds)) → (code : ℕ) (class : Class)
       → list_any (λ (m : ℕ). service code class == m) numbers ≡ list_any (λ (d : Definition). has_class code class d.head) ds

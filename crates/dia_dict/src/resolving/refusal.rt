@@ -1,10 +1,13 @@
 use crate::findings::Recorded;
 use std::alloc::AllocError;
+use thiserror::Error;
 
 /// Why a check does not pass.
-#[derive(Clone, Copy)]
+#[derive(Clone, Copy, Debug, Error)]
 pub(super) enum Refusal<'a> {
+    #[error("{}", .0.kind)]
     Occurs(Recorded<'a>),
+    #[error("out of memory")]
     NoMemory,
 }
 

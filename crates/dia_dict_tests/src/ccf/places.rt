@@ -140,4 +140,6 @@ T $N*129 => syntax 2 1
 # Texts have 1,048,576 bytes at most.
 $BLANK*1048576 => fine
 $BLANK*1048577 => limit 0
+%avp X 9002 Unsigned32 any <T> ::= < Diameter Header: 302, REQ > { X }$BLANK*1048506 => fine
+%avp X 9002 Unsigned32 any <T> ::= < Diameter Header: 302, REQ > { X }$BLANK*1048507 => limit 0
 ";

@@ -29,6 +29,9 @@ accepts UTF8String f4908080 => BadValue
 # Numbers of a list that has a gap, of one of several ranges, and where there is no list.
 accepts Enumerated(0..1,3..3) 00000002 => BadValue
 accepts Enumerated(0..1,3..3) 00000003 => Fine
+accepts Enumerated(0..0,1..1,2..2) 000002 => BadLength
+accepts Enumerated(0..0,1..1,2..2) 00000002 => Fine
+accepts Enumerated(0..0,1..1,2..2) ffffffff => BadValue
 accepts Enumerated(0..0,1..1,2..2,9..8,20..30) 000002 => BadLength
 accepts Enumerated(0..0,1..1,2..2,9..8,20..30) 00000002 => Fine
 accepts Enumerated(0..0,1..1,2..2,9..8,20..30) ffffffff => BadValue

@@ -1,6 +1,7 @@
 //! The numbers of an Enumerated format.
 
 use super::is_leaf;
+use byteorder::{BigEndian, ByteOrder};
 use dia_data::{Format, Leaf, Values, accepts, format_below};
 use std::alloc::{AllocError, Global};
 use std::process::Abort;
@@ -8,12 +9,9 @@ use std::process::Abort;
 /// Checks whether a number is one of an Enumerated format.
 fn lists(rt: &impl Abort, format: &Format, number: u32, listed: bool) {
     let answer = if listed { Leaf::Fine } else { Leaf::BadValue };
-    is_leaf(
-        rt,
-        accepts(format, &number.to_be_bytes()),
-        answer,
-        "a listed number",
-    );
+    let mut bytes = [0; 4];
+    BigEndian::write_u32(&mut bytes, number);
+    is_leaf(rt, accepts(format, &bytes), answer, "a listed number");
 }
 
 const WRITTEN: [(u32, u32); 5] = [(7, 9), (3, 2), (0, 3), (4, 4), (8, 12)];

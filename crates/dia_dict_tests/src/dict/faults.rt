@@ -55,7 +55,7 @@ fn records(rt: &(impl AllocGlobal + Abort), names: &Names, row: &Row<'_>) {
 /// The kind of a fault, and the names that are reported.
 fn fault_words(alloc: Global, fault: &DictFault) -> Result<String, AllocError> {
     match fault {
-        DictFault::Occurs { kind, name, slot } => {
+        DictFault::Stands { kind, name, slot } => {
             let mut text = format!(in alloc; "{kind:?}")?;
             for part in [name.as_str(), slot.as_str()] {
                 if !part.is_empty() {

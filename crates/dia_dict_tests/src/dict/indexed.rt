@@ -1,8 +1,9 @@
-//! Books with tables for their look-ups: many rules, and keys that share a bucket.
+//! Books with maps for their look-ups: many rules, and keys that crowd in a map.
 
 use super::{declarations, finds, indexed_of};
 use dia_dict::{Book, Class, IndexedBook, Key, Slot};
 use std::alloc::{AllocError, Global};
+use std::hash::{FoldHasher, Hash, Hasher};
 use std::process::Abort;
 
 /// A command of so many rules, each for an AVP of its own.
@@ -39,43 +40,62 @@ fn finds_each_of_1024_rules(rt: HostRuntime) {
     finds_rules(&rt, &*indexed_of(&rt, text.as_str()));
 }
 
-/// The inverse of the odd number that keys are multiplied by: the products of the keys below are 1, 2, 3 and so on.
-const INVERSE: u64 = 17428512612931826493;
-
-/// The key whose product is this number.
-fn neighbour(number: u64) -> Key {
-    let number = number.wrapping_mul(INVERSE);
-    Key {
-        code: (number & 0xffff_ffff) as u32,
-        vendor: (number >> 32) as u32,
-    }
+/// Where a search for the key begins, in a map of a thousand keys that hashes by the first seed of a dictionary.
+fn place(key: Key) -> u64 {
+    let mut hasher = FoldHasher::default();
+    hasher.write_u32(0);
+    key.hash(&mut hasher);
+    let hash = hasher.finish();
+    (hash ^ hash >> 32) % 128
 }
 
-/// AVPs whose keys all share a bucket.
-fn neighbours(alloc: Global, count: u64) -> Result<String, AllocError> {
+/// Keys whose searches all begin at one place.
+fn crowd(alloc: Global, count: usize) -> Result<Vec<Key>, AllocError> {
+    let mut keys = Vec::new(alloc);
+    for code in 0..1_000_000u32 {
+        let key = Key {
+            code,
+            vendor: 10415,
+        };
+        if keys.len() < count && place(key) == 0 {
+            keys.push(key)?;
+        }
+    }
+    Ok(keys)
+}
+
+/// AVPs of these keys.
+fn avps(alloc: Global, keys: &[Key]) -> Result<String, AllocError> {
     let mut text = String::new(alloc);
-    for number in 1..=count {
-        let Key { code, vendor } = neighbour(number);
-        write!(text, "%avp A{number} {code} vendor {vendor} Time any\n")?;
+    for Key { code, vendor } in keys {
+        write!(text, "%avp A{code} {code} vendor {vendor} Time any\n")?;
     }
     Ok(text)
 }
 
-/// Checks that each key is found.
-fn finds_neighbours(rt: &impl Abort, book: &IndexedBook) {
-    let entries = book.entries();
-    assert!(rt; entries == 1000);
-    for place in 0..entries {
-        let entry = book.entry_at(place);
-        finds(rt, book, book.entry_key(entry), Some(entry));
-        finds(rt, book, neighbour(place as u64 + 1), Some(entry));
+/// Checks that each key is found, and its neighbour not.
+fn finds_crowd(rt: &impl Abort, book: &IndexedBook, keys: &[Key]) {
+    assert!(rt; book.entries() == 1000);
+    for (place, key) in keys.iter().enumerate() {
+        if place < book.entries() {
+            finds(rt, book, *key, Some(book.entry_at(place)));
+        }
+        let vendor = key.vendor.wrapping_add(1);
+        finds(
+            rt,
+            book,
+            Key {
+                code: key.code,
+                vendor,
+            },
+            None,
+        );
     }
-    finds(rt, book, neighbour(0), None);
-    finds(rt, book, neighbour(1001), None);
 }
 
 #[test]
-fn finds_keys_that_share_a_bucket(rt: HostRuntime) {
-    let text = neighbours(rt.alloc(), 1000).expect(&rt, "memory");
-    finds_neighbours(&rt, &*indexed_of(&rt, text.as_str()));
+fn finds_keys_that_crowd(rt: HostRuntime) {
+    let keys = crowd(rt.alloc(), 1000).expect(&rt, "memory");
+    let text = avps(rt.alloc(), &keys).expect(&rt, "memory");
+    finds_crowd(&rt, &*indexed_of(&rt, text.as_str()), &keys);
 }

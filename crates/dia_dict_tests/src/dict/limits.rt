@@ -6,7 +6,7 @@ use dia_dict::{Book, DictFault, DictKind};
 /// Whether a fault is that there is too much, of no name.
 fn is_limit(fault: &DictFault) -> bool {
     match fault {
-        DictFault::Occurs { kind, name, slot } => {
+        DictFault::Stands { kind, name, slot } => {
             *kind == DictKind::Limit && name.is_empty() && slot.is_empty()
         }
         DictFault::NoMemory => false,

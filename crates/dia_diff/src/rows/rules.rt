@@ -51,6 +51,19 @@ pub(super) const ROWS: &str =
 <C> ::= < Diameter Header: 302, REQ > [ G ]
 --
 ~ AVP G: { X } 1..* -> { X } 1; breaks A to B
+== new rules of a group and a command with other names; options listed; status 1
+%avp X 9001 Unsigned32 any
+<Old> ::= < AVP Header: 9003 >
+<C> ::= < Diameter Header: 302, REQ > [ Old ]
+--
+%avp X 9001 Unsigned32 any
+<New> ::= < AVP Header: 9003 > [ X ]
+<D> ::= < Diameter Header: 302, REQ > [ New ] [ X ]
+--
+~ AVP Old: name Old -> New
++ AVP Old: [ X ] 0..1; breaks B to A
+~ command C: name C -> D
++ command C: [ X ] 0..1; breaks B to A
 == a wildcard that is removed; options -; status 1
 %avp X 9001 Unsigned32 any
 <C> ::= < Diameter Header: 302, REQ > [ X ] * [ AVP ]

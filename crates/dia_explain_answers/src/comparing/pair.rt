@@ -11,8 +11,8 @@ use crate::sides::Side;
 use crate::texts::{Scene, Word};
 use dia_book::{DRule, DefHead, Definition, Key};
 use dia_breaking_data::witness;
+use dia_compat::{Failing, PairKind};
 use dia_explain_places::Note;
-use dia_inclusion::{Failing, PairKind};
 
 /// A pair of commands or of AVPs, and what of it fails a test.
 #[derive(Clone, Copy)]

@@ -2,9 +2,8 @@
 
 use crate::sides::Side;
 use dia_check::Unknown;
+use dia_compat::{PairKind, Table, words_of};
 use dia_explain_places::line_from;
-use dia_inclusion::PairKind;
-use dia_tables::{Table, words_of};
 
 /// Two dictionaries, compared by a table.
 #[derive(Clone, Copy)]

@@ -18,7 +18,7 @@ use super::pair::Pair;
 use dia_book::{Format, RuleKind};
 use dia_breaking_data::witness;
 use dia_check::Unknown;
-use dia_inclusion::Failing;
+use dia_compat::Failing;
 
 /// The lines about a failing, with the hint where it is the same for all of its kind: here of the tests N1 to N5.
 pub fn lines_of(failing: Failing) -> &'static str {

@@ -1,6 +1,7 @@
 //! The bytes of an AVP, by its fields (RFC 6733 section 4.1), and flags.
 
 use crate::texts::{Scene, Word, push_text};
+use byteorder::{BigEndian, ByteOrder};
 use dia_data::push_hex_byte;
 use dia_explain_places::Note;
 use dia_wire::{AVP_HEAD_LENGTH, AVP_MANDATORY, AVP_PROTECTED, AVP_VENDOR, VENDOR_AVP_HEAD_LENGTH};
@@ -89,11 +90,10 @@ pub fn push_hex(note: &mut Note, bytes: &[u8]) {
 
 /// The number that at most 4 bytes spell in network byte order.
 fn value_of(bytes: &[u8]) -> u32 {
-    let mut value = 0u32;
-    for byte in bytes.iter().take(4) {
-        value = (value & 0x00ff_ffff) << 8 | u32::from(*byte);
-    }
-    value
+    let count = bytes.len().min(4);
+    let mut four = [0; 4];
+    four[4 - count..].copy_from_slice(&bytes[..count]);
+    BigEndian::read_u32(&four)
 }
 
 /// The AVP Length of the AVP at the start of some bytes.

@@ -18,6 +18,8 @@ pub fn push_cause(note: &mut Note, scene: &Scene<'_>) {
         note.put_hint(hint);
     } else if let Some(format) = format_meant(scene) {
         note.put_all(&["hint: did you mean ", format, "?\n"]);
+    } else if let Some(name) = unruled(scene) {
+        push_unruled(note, scene, name);
     } else if let Some(hint) = hint_at(scene) {
         note.put_hint(hint);
     } else {
@@ -32,6 +34,34 @@ fn format_meant(scene: &Scene<'_>) -> Option<&'static str> {
     }
     let word = str::from_utf8(scene.word(scene.token)).ok()?;
     nearest_name(word, format_words())
+}
+
+/// The name in the declaration that ends where the rule of its M flag is wanted.
+fn unruled(scene: &Scene<'_>) -> Option<Lexeme> {
+    if scene.place == "MRule" && is_at_next(scene) {
+        scene.declared()
+    } else {
+        None
+    }
+}
+
+/// Whether the place is before a declaration or a definition, or at the end of a text that isn't cut.
+fn is_at_next(scene: &Scene<'_>) -> bool {
+    let next = scene.word(scene.token);
+    if next.is_empty() {
+        return !is_cut_by_comment(scene.text);
+    }
+    let following = scene.word(scene.following(scene.token));
+    next == b"%avp".as_slice() || next == b"<".as_slice() || following == b"::=".as_slice()
+}
+
+/// Adds that a declaration has no rule of the M flag.
+fn push_unruled(note: &mut Note, scene: &Scene<'_>, name: Lexeme) {
+    note.put("hint: the declaration of ");
+    note.put_shown(scene.word(Some(name)));
+    note.put(" at ");
+    push_line_column(note, place_of(scene.text, name.at));
+    note.put(" ends without the rule of the M flag: add must, mustnot or any\n");
 }
 
 fn hint_at(scene: &Scene<'_>) -> Option<&'static str> {

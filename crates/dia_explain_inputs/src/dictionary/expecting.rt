@@ -36,7 +36,7 @@ pub fn push_expected(note: &mut Note, wanted: Wanted) {
 }
 
 /// Adds items, with `last` before the last of several.
-fn push_items(note: &mut Note, items: &[&str], last: &str) {
+pub fn push_items(note: &mut Note, items: &[&str], last: &str) {
     let mut left = items.len();
     let mut between = "";
     for item in items {

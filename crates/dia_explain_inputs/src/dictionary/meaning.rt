@@ -5,6 +5,7 @@ ghost use Rattle.dia_explain_places.specs.Parts.{part_place};
 ghost use Rattle.dia_explain_places.specs.Places.{start_text};
 ghost use Rattle.dia_explain_inputs.specs.Beginnings.{BeginsWith, RecordsFirst};
 
+mod joined;
 mod parts;
 mod recorded;
 mod texts;
@@ -16,6 +17,7 @@ use crate::notes::{push_line_column, push_made};
 use dia_dict::{DictKind, Finding, base_text, faults};
 use dia_explain_places::{NamedText, Note, Place, nearest_name};
 use dia_report::WrongSource;
+use joined::Joined;
 use parts::Parts;
 use recorded::{RecordedFault, recorded_faults};
 use std::alloc::{AllocError, Global};
@@ -26,6 +28,13 @@ const MOST: usize = 50;
 
 /// The most names that are listed where they are too many for a fault each.
 const MOST_NAMES: usize = 200;
+
+/// What hints are made of: the names of AVPs in the text, and what its faults show of its files.
+#[derive(Drop)]
+struct Known<'a> {
+    names: Vec<&'a str>,
+    joined: Joined,
+}
 
 /// Adds the faults of meaning of a text that spells a source, the one of the report first.
 pub fn push_meaning(note: &mut Note, name: &str, text: &str, wrong: &WrongSource)
@@ -62,15 +71,18 @@ fn recorded_of<'a>(
     findings: &[Finding<'a>],
 ) -> Result<String, AllocError> {
     let faults = recorded_faults(alloc, findings)?;
-    let names = names_of(alloc, parts.source, Named::Avp)?;
+    let known = Known {
+        names: names_of(alloc, parts.source, Named::Avp)?,
+        joined: Joined::of(alloc, parts, &faults)?,
+    };
     let mut recorded = Note::new(alloc);
-    push_first(&mut recorded, parts, &names, &faults);
+    push_first(&mut recorded, parts, &known, &faults);
     push_rest(&mut recorded, parts.name, &faults);
     recorded.finish()
 }
 
 /// Adds the first faults one by one, without the place of the very first. The hint for each kind of fault is given once.
-fn push_first(note: &mut Note, parts: &Parts<'_>, names: &[&str], faults: &[RecordedFault<'_>]) {
+fn push_first(note: &mut Note, parts: &Parts<'_>, known: &Known<'_>, faults: &[RecordedFault<'_>]) {
     let mut advised = None;
     let mut is_first = true;
     for fault in faults.get(..MOST).unwrap_or(faults) {
@@ -79,7 +91,7 @@ fn push_first(note: &mut Note, parts: &Parts<'_>, names: &[&str], faults: &[Reco
             note.put_start(parts.name, parts.text.as_bytes(), at);
         }
         is_first = false;
-        advised = push_fault(note, parts, names, fault, advised);
+        advised = push_fault(note, parts, known, fault, advised);
     }
 }
 
@@ -88,7 +100,7 @@ fn push_first(note: &mut Note, parts: &Parts<'_>, names: &[&str], faults: &[Reco
 fn push_fault(
     note: &mut Note,
     parts: &Parts<'_>,
-    names: &[&str],
+    known: &Known<'_>,
     fault: &RecordedFault<'_>,
     advised: Option<DictKind>,
 ) -> Option<DictKind> {
@@ -97,12 +109,17 @@ fn push_fault(
     push_filled(note, parts, fault, recorded);
     push_place(note, parts.place(fault.other));
     let kind = fault.finding.recorded.kind;
-    if push_meant(note, names, fault) || is_advised(kind, advised) {
+    if known.joined.causes(kind) {
+        if !is_advised(kind, advised) {
+            known.joined.push(note, kind);
+        }
+    } else if push_meant(note, &known.names, fault) || is_advised(kind, advised) {
         return advised;
+    } else {
+        note.put("hint: ");
+        push_filled(note, parts, fault, advice);
+        note.put("\n");
     }
-    note.put("hint: ");
-    push_filled(note, parts, fault, advice);
-    note.put("\n");
     Some(kind)
 }
 

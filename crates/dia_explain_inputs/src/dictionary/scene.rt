@@ -55,6 +55,28 @@ impl<'a> Scene<'a> {
         next_lexeme(str::from_utf8(self.text).ok()?, token?.end)
     }
 
+    /// The name in the last declaration that begins before the place.
+    pub fn declared(&self) -> Option<Lexeme> {
+        let text = str::from_utf8(self.text).ok()?;
+        let mut name = None;
+        let mut is_next = false;
+        let mut at = 0;
+        for _ in 0..self.misfit.at {
+            let Some(token) = next_lexeme(text, at) else {
+                return name;
+            };
+            if token.at >= self.misfit.at {
+                return name;
+            }
+            if is_next {
+                name = Some(token);
+            }
+            is_next = self.word(Some(token)) == b"%avp".as_slice();
+            at = token.end;
+        }
+        name
+    }
+
     /// The name in angle brackets that was read as that of a definition, where `::=` is wanted after it on a later line.
     pub fn late_name(&self) -> Option<Lexeme> {
         let name = self.earlier?;

@@ -71,138 +71,224 @@ static SHIPPED: &str = "\
     3GPP-Charging-Characteristics:17 3GPP-CG-IPv6-Address:18 3GPP-SGSN-IPv6-Address:19 3GPP-GGSN-IPv6-Address:20 \
     3GPP-IPv6-DNS-Servers:21 3GPP-SGSN-MCC-MNC:22 3GPP-IMEISV:23 3GPP-RAT-Type:24 3GPP-User-Location-Info:25 \
     3GPP-MS-TimeZone:26 3GPP-CAMEL-Charging-Info:27 3GPP-Packet-Filter:28 3GPP-Negotiated-DSCP:29 3GPP-Allocate-IP-Type:30 \
-    RAI:31 @ts29212.txt ADC-Revalidation-Time:9 ADC-Rule-Install:10 ADC-Rule-Remove:11 ADC-Rule-Definition:12 \
-    ADC-Rule-Base-Name:13 ADC-Rule-Name:14 ADC-Rule-Report:15 Application-Detection-Information:16 \
-    Access-Network-Charging-Identifier-Gx:17 Allocation-Retention-Priority:18 AN-GW-Address:19 \
-    APN-Aggregate-Max-Bitrate-DL:20 APN-Aggregate-Max-Bitrate-UL:21 Bearer-Control-Mode:22 Bearer-Identifier:23 \
-    Bearer-Operation:24 Bearer-Usage:25 Charging-Rule-Install:26 Charging-Rule-Remove:27 Charging-Rule-Definition:28 \
-    Charging-Rule-Base-Name:29 Charging-Rule-Name:30 Charging-Rule-Report:31 Charging-Correlation-Indicator:32 \
-    CoA-IP-Address:33 CoA-Information:34 CSG-Information-Reporting:35 Default-EPS-Bearer-QoS:36 Event-Report-Indication:37 \
-    Event-Trigger:38 Flow-Direction:39 Flow-Information:40 Flow-Label:41 IP-CAN-Type:42 Guaranteed-Bitrate-DL:43 \
-    Guaranteed-Bitrate-UL:44 HeNB-Local-IP-Address:45 Metering-Method:46 Monitoring-Key:47 Mute-Notification:48 \
-    Monitoring-Time:49 Network-Request-Support:50 Offline:51 Online:52 Packet-Filter-Content:53 \
-    Packet-Filter-Identifier:54 Packet-Filter-Information:55 Packet-Filter-Operation:56 Packet-Filter-Usage:57 \
-    PDN-Connection-ID:58 Precedence:59 Pre-emption-Capability:60 Pre-emption-Vulnerability:61 Priority-Level:62 \
-    Redirect-Information:63 Redirect-Support:64 Reporting-Level:65 Routing-Filter:66 Routing-IP-Address:67 \
-    Routing-Rule-Definition:68 Routing-Rule-Identifier:69 Routing-Rule-Install:70 Routing-Rule-Remove:71 \
-    PCC-Rule-Status:72 Session-Release-Cause:73 TDF-Information:74 TDF-Application-Identifier:75 \
-    TDF-Application-Instance-Identifier:76 TDF-Destination-Host:77 TDF-Destination-Realm:78 TDF-IP-Address:79 \
-    QoS-Class-Identifier:80 QoS-Information:81 QoS-Negotiation:82 QoS-Upgrade:83 PS-to-CS-Session-Continuity:84 \
-    Resource-Allocation-Notification:85 Rule-Failure-Code:86 Security-Parameter-Index:87 TFT-Filter:88 \
-    TFT-Packet-Filter-Information:89 ToS-Traffic-Class:90 Tunnel-Header-Filter:91 Tunnel-Header-Length:92 \
-    Tunnel-Information:93 RAT-Type:94 Revalidation-Time:95 Rule-Activation-Time:96 UDP-Source-Port:97 \
-    UE-Local-IP-Address:98 Usage-Monitoring-Information:99 Rule-Deactivation-Time:100 Usage-Monitoring-Level:101 \
-    Usage-Monitoring-Report:102 Usage-Monitoring-Support:103 @ts29214.txt Abort-Cause:10 \
-    Access-Network-Charging-Address:11 Access-Network-Charging-Identifier:12 Access-Network-Charging-Identifier-Value:13 \
-    Acceptable-Service-Info:14 AF-Application-Identifier:15 AF-Charging-Identifier:16 \
-    Application-Service-Provider-Identity:17 Codec-Data:18 Flow-Description:19 Flow-Number:20 Flows:21 Flow-Status:22 \
-    Flow-Usage:23 Service-URN:24 Specific-Action:25 Max-Requested-Bandwidth-DL:26 Max-Requested-Bandwidth-UL:27 \
-    Media-Component-Description:28 Media-Component-Number:29 Media-Sub-Component:30 Media-Type:31 MPS-Identifier:32 \
-    Min-Requested-Bandwidth-DL:33 Min-Requested-Bandwidth-UL:34 RR-Bandwidth:35 RS-Bandwidth:36 Service-Info-Status:37 \
-    SIP-Forking-Indication:38 Sponsor-Identity:39 Sponsored-Connectivity-Data:40 AF-Signalling-Protocol:41 \
-    Required-Access-Info:42 Rx-Request-Type:43 IP-Domain-Id:44 Reservation-Priority:45 @ts29229.txt \
-    Associated-Identities:9 Associated-Registered-Identities:10 Call-ID-SIP-Header:11 Charging-Information:12 \
-    Confidentiality-Key:13 Contact:14 Deregistration-Reason:15 Feature-List:20 Feature-List-ID:21 From-SIP-Header:22 \
-    Identity-with-Emergency-Registration:23 Integrity-Key:24 LIA-Flags:25 Loose-Route-Indication:26 \
-    Mandatory-Capability:27 Multiple-Registration-Indication:28 Optional-Capability:29 Originating-Request:30 Path:31 \
-    Primary-Charging-Collection-Function-Name:32 Primary-Event-Charging-Function-Name:33 Priviledged-Sender-Indication:34 \
-    Public-Identity:35 Reason-Code:36 Reason-Info:37 Record-Route:38 Restoration-Info:39 SCSCF-Restoration-Info:40 \
-    SIP-Authentication-Context:43 SIP-Digest-Authenticate:46 Secondary-Charging-Collection-Function-Name:49 \
-    Secondary-Event-Charging-Function-Name:50 Server-Assignment-Type:51 Server-Capabilities:52 Server-Name:53 \
-    Session-Priority:54 Subscription-Info:55 Supported-Applications:56 Supported-Features:57 To-SIP-Header:58 UAR-Flags:59 \
-    User-Authorization-Type:60 User-Data:61 User-Data-Already-Available:62 Visited-Network-Identifier:63 \
-    Wildcarded-Public-Identity:64 @ts29272.txt Subscription-Data:12 Terminal-Information:13 IMEI:14 Software-Version:15 \
-    QoS-Subscribed:16 ULR-Flags:17 ULA-Flags:18 Visited-PLMN-Id:19 Requested-EUTRAN-Authentication-Info:20 \
-    Requested-UTRAN-GERAN-Authentication-Info:21 Number-Of-Requested-Vectors:22 Re-Synchronization-Info:23 \
-    Immediate-Response-Preferred:24 Authentication-Info:25 E-UTRAN-Vector:26 UTRAN-Vector:27 GERAN-Vector:28 \
-    Network-Access-Mode:29 HPLMN-ODB:30 Item-Number:31 Cancellation-Type:32 DSR-Flags:33 DSA-Flags:34 \
-    Context-Identifier:35 Subscriber-Status:36 Operator-Determined-Barring:37 Access-Restriction-Data:38 \
-    APN-OI-Replacement:39 All-APN-Configurations-Included-Indicator:40 APN-Configuration-Profile:41 APN-Configuration:42 \
-    EPS-Subscribed-QoS-Profile:43 VPLMN-Dynamic-Address-Allowed:44 STN-SR:45 Alert-Reason:46 AMBR:47 \
-    CSG-Subscription-Data:48 CSG-Id:49 PDN-GW-Allocation-Type:50 Expiration-Date:51 RAT-Frequency-Selection-Priority-ID:52 \
-    IDA-Flags:53 PUA-Flags:54 NOR-Flags:55 User-Id:56 Equipment-Status:57 Regional-Subscription-Zone-Code:58 RAND:59 \
-    XRES:60 AUTN:61 KASME:62 Trace-Collection-Entity:63 Kc:64 SRES:65 PDN-Type:66 \
-    Roaming-Restricted-Due-To-Unsupported-Feature:67 Trace-Data:68 Trace-Reference:69 Trace-Depth:70 Trace-NE-Type-List:71 \
-    Trace-Interface-List:72 Trace-Event-List:73 OMC-Id:74 GPRS-Subscription-Data:75 \
-    Complete-Data-List-Included-Indicator:76 PDP-Context:77 PDP-Type:78 3GPP2-MEID:79 Specific-APN-Info:80 LCS-Info:81 \
-    GMLC-Number:82 LCS-PrivacyException:83 SS-Code:84 SS-Status:85 Notification-To-UE-User:86 External-Client:87 \
-    Client-Identity:88 GMLC-Restriction:89 PLMN-Client:90 ServiceTypeIdentity:92 MO-LR:93 Teleservice-List:94 TS-Code:95 \
-    Call-Barring-Infor-List:96 SGSN-Number:97 IDR-Flags:98 ICS-Indicator:99 IMS-Voice-Over-PS-Sessions-Supported:100 \
-    Homogeneous-Support-of-IMS-Voice-Over-PS-Sessions:101 Last-UE-Activity-Time:102 EPS-User-State:103 \
-    EPS-Location-Information:104 MME-User-State:105 SGSN-User-State:106 User-State:107 MME-Location-Information:108 \
-    SGSN-Location-Information:109 E-UTRAN-Cell-Global-Identity:110 Tracking-Area-Identity:111 Cell-Global-Identity:112 \
-    Routing-Area-Identity:113 Location-Area-Identity:114 Service-Area-Identity:115 Geographical-Information:116 \
-    Geodetic-Information:117 Current-Location-Retrieved:118 Age-Of-Location-Information:119 Active-APN:120 \
-    Error-Diagnostic:121 Ext-PDP-Address:122 UE-SRVCC-Capability:123 MPS-Priority:124 VPLMN-LIPA-Allowed:125 \
-    LIPA-Permission:126 Subscribed-Periodic-RAU-TAU-Timer:127 Ext-PDP-Type:128 SIPTO-Permission:129 MDT-Configuration:130 \
-    Job-Type:131 Area-Scope:132 List-Of-Measurements:133 Reporting-Trigger:134 Report-Interval:135 Report-Amount:136 \
-    Event-Threshold-RSRP:137 Event-Threshold-RSRQ:138 Logging-Interval:139 Logging-Duration:140 Relay-Node-Indicator:141 \
-    MDT-User-Consent:142 PUR-Flags:143 Subscribed-VSRVCC:144 Equivalent-PLMN-List:145 CLR-Flags:146 UVR-Flags:147 \
-    UVA-Flags:148 VPLMN-CSG-Subscription-Data:149 Time-Zone:150 A-MSISDN:151 MME-Number-for-MT-SMS:152 \
-    SMS-Register-Request:153 Local-Time-Zone:154 Daylight-Saving-Time:155 Subscription-Data-Flags:156 \
-    Measurement-Period-UMTS:157 Measurement-Period-LTE:158 Collection-Period-RRM-LTE:159 Collection-Period-RRM-UMTS:160 \
-    Positioning-Method:161 Measurement-Quantity:162 Event-Threshold-Event-1F:163 Event-Threshold-Event-1I:164 \
-    Served-Party-IP-Address:165 PDP-Address:166 GMLC-Address:167 MIP6-Agent-Info:176 MIP-Home-Agent-Address:177 \
-    MIP-Home-Agent-Host:178 MIP6-Home-Link-Prefix:179 Service-Selection:180 @ts29329.txt User-Identity:10 MSISDN:11 \
-    Sh-User-Data:12 Data-Reference:13 Service-Indication:14 Subs-Req-Type:15 Requested-Domain:16 Current-Location:17 \
-    Identity-Set:18 Expiry-Time:19 Send-Data-Indication:20 DSAI-Tag:21 Wildcarded-IMPU:22 One-Time-Notification:23 \
-    Requested-Nodes:24 Serving-Node-Indication:25 Repository-Data-ID:26 Sequence-Number:27 UDR-Flags:28 @ts32299.txt \
-    AF-Correlation-Information:10 Access-Network-Information:11 Access-Transfer-Information:12 Access-Transfer-Type:13 \
-    Account-Expiration:14 Accumulated-Cost:15 Adaptations:16 Additional-Content-Information:17 \
-    Additional-Type-Information:18 Address-Data:19 Address-Domain:20 Address-Type:21 Addressee-Type:22 \
-    Alternate-Charged-Party-Address:23 AoC-Cost-Information:24 AoC-Format:25 AoC-Information:26 AoC-Request-Type:27 \
-    AoC-Service:28 AoC-Service-Obligatory-Type:29 AoC-Service-Type:30 AoC-Subscription-Information:31 Applic-ID:32 \
-    Application-Server:33 Application-Server-Information:34 Application-Provided-Called-Party-Address:35 \
-    Associated-Party-Address:36 Associated-URI:37 Aux-Applic-Info:38 Base-Time-Interval:39 Bearer-Service:40 CG-Address:41 \
-    CSG-Access-Mode:42 CSG-Membership-Indication:43 CUG-Information:44 Called-Asserted-Identity:45 Called-Party-Address:46 \
-    Calling-Party-Address:47 Carrier-Select-Routing-Information:48 Cause-Code:49 Change-Condition:50 Change-Time:51 \
-    Charge-Reason-Code:52 Charged-Party:53 Charging-Characteristics-Selection-Mode:54 Class-Identifier:55 \
-    Client-Address:56 Content-Class:57 Content-Disposition:58 Content-Length:59 Content-Size:60 Content-Type:61 \
-    Current-Tariff:62 DRM-Content:63 Data-Coding-Scheme:64 Deferred-Location-Event-Type:65 Delivery-Report-Requested:66 \
-    Destination-Interface:67 Diagnostics:68 Domain-Name:69 Dynamic-Address-Flag:70 Dynamic-Address-Flag-Extension:71 \
-    Early-Media-Description:72 Envelope:73 Envelope-End-Time:74 Envelope-Reporting:75 Envelope-Start-Time:76 Event:77 \
-    Event-Charging-TimeStamp:78 Event-Type:79 Expires:80 File-Repair-Supported:81 From-Address:82 GGSN-Address:83 \
-    IMS-Application-Reference-Identifier:84 IMS-Charging-Identifier:85 IMS-Communication-Service-Identifier:86 \
-    IMS-Emergency-Indicator:87 IMS-Information:88 IMSI-Unauthenticated-Flag:89 IP-Realm-Default-Indication:90 \
-    Incoming-Trunk-Group-Id:91 Incremental-Cost:92 Initial-IMS-Charging-Identifier:93 Inter-Operator-Identifier:94 \
-    Interface-Id:95 Interface-Port:96 Interface-Text:97 Interface-Type:98 LCS-APN:99 LCS-Client-Dialed-By-MS:100 \
-    LCS-Client-External-ID:101 LCS-Client-Id:102 LCS-Client-Name:103 LCS-Client-Type:104 LCS-Data-Coding-Scheme:105 \
-    LCS-Format-Indicator:106 LCS-Information:107 LCS-Name-String:108 LCS-Requestor-Id:109 LCS-Requestor-Id-String:110 \
-    Local-GW-Inserted-Indication:111 Local-Sequence-Number:112 Location-Estimate:113 Location-Estimate-Type:114 \
-    Location-Type:115 Low-Balance-Indication:116 Low-Priority-Indicator:117 MBMS-GW-Address:118 MBMS-Information:119 \
-    MBMS-User-Service-Type:120 MM-Content-Type:121 MMBox-Storage-Requested:122 MMS-Information:123 MMTel-Information:124 \
-    MMTel-SService-Type:125 Media-Initiator-Flag:126 Media-Initiator-Party:127 Message-Body:128 Message-Class:129 \
-    Message-ID:130 Message-Size:131 Message-Type:132 NNI-Information:133 NNI-Type:134 Neighbour-Node-Address:135 \
-    Next-Tariff:136 Node-Functionality:137 Node-Id:138 Number-Of-Diversions:139 Number-Of-Messages-Sent:140 \
-    Number-Of-Participants:141 Number-Of-Received-Talk-Bursts:142 Number-Of-Talk-Bursts:143 \
-    Number-Portability-Routing-Information:144 Offline-Charging:145 Online-Charging-Flag:146 Originating-IOI:147 \
-    Originator:148 Originator-Address:149 Originator-Interface:150 Originator-Received-Address:151 \
-    Originator-SCCP-Address:152 Outgoing-Session-Id:153 Outgoing-Trunk-Group-Id:154 PDG-Address:155 PDG-Charging-Id:156 \
-    PDN-Connection-Charging-ID:157 PDP-Address-Prefix-Length:159 PDP-Context-Type:160 PS-Append-Free-Format-Data:161 \
-    PS-Free-Format-Data:162 PS-Furnish-Charging-Information:163 PS-Information:164 Participant-Access-Priority:165 \
-    Participant-Action-Type:166 Participant-Group:167 Participants-Involved:168 PoC-Change-Condition:169 \
-    PoC-Change-Time:170 PoC-Controlling-Address:171 PoC-Event-Type:172 PoC-Group-Name:173 PoC-Information:174 \
-    PoC-Server-Role:175 PoC-Session-Id:176 PoC-Session-Initiation-type:177 PoC-Session-Type:178 PoC-User-Role:179 \
-    PoC-User-Role-IDs:180 PoC-User-Role-info-Units:181 Positioning-Data:182 Preferred-AoC-Currency:183 Priority:184 \
-    Quota-Consumption-Time:185 Quota-Holding-Time:186 Rate-Element:187 Read-Reply-Report-Requested:188 \
-    Real-Time-Tariff-Information:189 Received-Talk-Burst-Time:190 Received-Talk-Burst-Volume:191 Recipient-Address:192 \
-    Recipient-Info:193 Recipient-Received-Address:194 Recipient-SCCP-Address:195 Refund-Information:196 \
-    Relationship-Mode:197 Remaining-Balance:198 Reply-Applic-ID:199 Reply-Path-Requested:200 Reporting-Reason:201 \
-    Requested-Party-Address:202 Role-Of-Node:203 SDP-Answer-Timestamp:204 SDP-Media-Component:205 \
-    SDP-Media-Description:206 SDP-Media-Name:207 SDP-Offer-Timestamp:208 SDP-Session-Description:209 SDP-TimeStamps:210 \
-    SDP-Type:211 SGSN-Address:212 SGW-Address:213 SGW-Change:214 SIP-Request-Timestamp:216 \
-    SIP-Request-Timestamp-Fraction:217 SIP-Response-Timestamp:218 SIP-Response-Timestamp-Fraction:219 \
-    SM-Discharge-Time:220 SM-Message-Type:221 SM-Protocol-ID:222 SM-Service-Type:223 SM-Status:224 SM-User-Data-Header:225 \
-    SMS-Information:226 SMS-Node:227 SMSC-Address:228 Scale-Factor:229 Service-Data-Container:231 Service-Id:232 \
-    Service-Information:233 Service-Mode:234 Service-Specific-Data:235 Service-Specific-Info:236 Service-Specific-Type:237 \
-    Serving-Node-Type:238 Session-Direction:239 Start-Time:240 Status:241 Stop-Time:242 Submission-Time:243 \
-    Subscriber-Role:244 Supplementary-Service:245 Talk-Burst-Exchange:246 Talk-Burst-Time:247 Talk-Burst-Volume:248 \
-    Tariff-Information:249 Tariff-XML:250 Terminating-IOI:251 Time-First-Usage:252 Time-Last-Usage:253 \
-    Time-Quota-Mechanism:254 Time-Quota-Threshold:255 Time-Quota-Type:256 Time-Stamps:257 Time-Usage:258 Token-Text:259 \
-    Traffic-Data-Volumes:260 Transcoder-Inserted-Indication:261 Transit-IOI-List:262 Trigger:263 Trigger-Type:264 \
-    Trunk-Group-Id:265 Type-Number:266 Unit-Cost:267 Unit-Quota-Threshold:268 User-CSG-Information:269 \
-    User-Participating-Type:270 User-Session-Id:271 Volume-Quota-Threshold:272 WAG-Address:273 WAG-PLMN-Id:274 \
-    WLAN-Information:275 WLAN-Radio-Container:276 WLAN-Session-Id:277 WLAN-Technology:278 WLAN-UE-Local-IPAddress:279\
+    RAI:31 @ts29128.txt Connection-Action:16 Extended-PCO:18 CMR-Flags:19 Non-IP-Data:20 SCEF-Wait-Time:21 \
+    Maximum-Retransmission-Time:22 Requested-Retransmission-Time:23 TDA-Flags:24 @ts29172.txt SLg-Location-Type:15 \
+    LCS-EPS-Client-Name:16 LCS-Requestor-Name:18 LCS-Priority:19 LCS-QoS:20 Velocity-Requested:21 Supported-GAD-Shapes:22 \
+    LCS-Service-Type-ID:23 LCS-Codeword:24 LCS-Privacy-Check-Non-Session:25 LCS-Privacy-Check-Session:26 \
+    Deferred-Location-Type:27 LCS-Reference-Number:28 Area-Event-Info:29 PLR-Flags:30 Periodic-LDR-Information:31 \
+    Reporting-PLMN-List:32 Motion-Event-Info:33 Accuracy-Fulfilment-Indicator:35 Age-Of-Location-Estimate:36 \
+    Velocity-Estimate:37 EUTRAN-Positioning-Data:38 ECGI:39 GERAN-Positioning-Info:40 UTRAN-Positioning-Info:41 \
+    PLA-Flags:42 ESMLC-Cell-Info:43 Civic-Address:44 Barometric-Pressure:45 Location-Event:46 Pseudonym-Indicator:47 \
+    LCS-QoS-Class:48 LRR-Flags:49 Deferred-MT-LR-Data:50 Reporting-Amount:51 1xRTT-RCID:52 \
+    Delayed-Location-Reporting-Data:53 LRA-Flags:54 Vertical-Accuracy:58 Vertical-Requested:59 Response-Time:60 \
+    Horizontal-Accuracy:61 LCS-Privacy-Check:62 Occurrence-Info:63 Interval-Time:64 Maximum-Interval:65 \
+    Sampling-Interval:66 Reporting-Duration:67 Reporting-Location-Requirements:68 Area-Definition:69 Reporting-Interval:70 \
+    PLMN-ID-List:71 Prioritized-List-Indicator:72 Linear-Distance:73 GERAN-Positioning-Data:74 \
+    GERAN-GANSS-Positioning-Data:75 UTRAN-Positioning-Data:76 UTRAN-GANSS-Positioning-Data:77 \
+    UTRAN-Additional-Positioning-Data:78 Cell-Portion-ID:79 Termination-Cause-3GPP:80 Area:81 Additional-Area:82 \
+    Periodic-Location-Support-Indicator:83 Area-Type:84 Area-Identification:85 @ts29173.txt LMSI:15 Serving-Node:16 \
+    Additional-Serving-Node:17 PPR-Address:18 RIA-Flags:19 SGSN-Name:20 SGSN-Realm:21 MSC-Number:24 \
+    3GPP-AAA-Server-Name:25 LCS-Capabilities-Sets:26 IP-SM-GW-Number:27 IP-SM-GW-Name:28 @ts29212.txt \
+    ADC-Revalidation-Time:16 ADC-Rule-Install:17 ADC-Rule-Remove:18 ADC-Rule-Definition:19 ADC-Rule-Base-Name:20 \
+    ADC-Rule-Name:21 ADC-Rule-Report:22 Application-Detection-Information:23 Access-Network-Charging-Identifier-Gx:24 \
+    Allocation-Retention-Priority:25 AN-GW-Address:26 APN-Aggregate-Max-Bitrate-DL:27 APN-Aggregate-Max-Bitrate-UL:28 \
+    Bearer-Control-Mode:29 Bearer-Identifier:30 Bearer-Operation:31 Bearer-Usage:32 Charging-Rule-Install:33 \
+    Charging-Rule-Remove:34 Charging-Rule-Definition:35 Charging-Rule-Base-Name:36 Charging-Rule-Name:37 \
+    Charging-Rule-Report:38 Charging-Correlation-Indicator:39 CoA-IP-Address:40 CoA-Information:41 \
+    CSG-Information-Reporting:42 Default-EPS-Bearer-QoS:43 Event-Report-Indication:44 Event-Trigger:45 Flow-Direction:46 \
+    Flow-Information:47 Flow-Label:48 IP-CAN-Type:49 Guaranteed-Bitrate-DL:50 Guaranteed-Bitrate-UL:51 \
+    HeNB-Local-IP-Address:52 Metering-Method:53 Monitoring-Key:54 Mute-Notification:55 Monitoring-Time:56 \
+    Network-Request-Support:57 Offline:58 Online:59 Packet-Filter-Content:60 Packet-Filter-Identifier:61 \
+    Packet-Filter-Information:62 Packet-Filter-Operation:63 Packet-Filter-Usage:64 PDN-Connection-ID:65 Precedence:66 \
+    Pre-emption-Capability:67 Pre-emption-Vulnerability:68 Priority-Level:69 Redirect-Information:70 Redirect-Support:71 \
+    Reporting-Level:72 Routing-Filter:73 Routing-IP-Address:74 Routing-Rule-Definition:75 Routing-Rule-Identifier:76 \
+    Routing-Rule-Install:77 Routing-Rule-Remove:78 PCC-Rule-Status:79 Session-Release-Cause:80 TDF-Information:81 \
+    TDF-Application-Identifier:82 TDF-Application-Instance-Identifier:83 TDF-Destination-Host:84 TDF-Destination-Realm:85 \
+    TDF-IP-Address:86 QoS-Class-Identifier:87 QoS-Information:88 QoS-Negotiation:89 QoS-Upgrade:90 \
+    PS-to-CS-Session-Continuity:91 Resource-Allocation-Notification:92 Rule-Failure-Code:93 Security-Parameter-Index:94 \
+    TFT-Filter:95 TFT-Packet-Filter-Information:96 ToS-Traffic-Class:97 Tunnel-Header-Filter:98 Tunnel-Header-Length:99 \
+    Tunnel-Information:100 RAT-Type:101 Revalidation-Time:102 Rule-Activation-Time:103 UDP-Source-Port:104 \
+    UE-Local-IP-Address:105 Usage-Monitoring-Information:106 Rule-Deactivation-Time:107 Usage-Monitoring-Level:108 \
+    Usage-Monitoring-Report:109 Usage-Monitoring-Support:110 Monitoring-Flags:111 \
+    Traffic-Steering-Policy-Identifier-DL:112 Traffic-Steering-Policy-Identifier-UL:113 Sharing-Key-DL:114 \
+    Sharing-Key-UL:115 @ts29214.txt Abort-Cause:14 Access-Network-Charging-Address:15 \
+    Access-Network-Charging-Identifier:16 Access-Network-Charging-Identifier-Value:17 Acceptable-Service-Info:18 \
+    AF-Application-Identifier:19 AF-Charging-Identifier:20 Application-Service-Provider-Identity:21 Codec-Data:22 \
+    Flow-Description:23 Flow-Number:24 Flows:25 Flow-Status:26 Flow-Usage:27 Service-URN:28 Specific-Action:29 \
+    Max-Requested-Bandwidth-DL:30 Max-Requested-Bandwidth-UL:31 Media-Component-Description:32 Media-Component-Number:33 \
+    Media-Sub-Component:34 Media-Type:35 MPS-Identifier:36 Min-Requested-Bandwidth-DL:37 Min-Requested-Bandwidth-UL:38 \
+    RR-Bandwidth:39 RS-Bandwidth:40 Service-Info-Status:41 SIP-Forking-Indication:42 Sponsor-Identity:43 \
+    Sponsored-Connectivity-Data:44 AF-Signalling-Protocol:45 Required-Access-Info:46 Rx-Request-Type:47 IP-Domain-Id:48 \
+    Reservation-Priority:49 @ts29215.txt Subsession-Enforcement-Info:15 Subsession-Decision-Info:16 Subsession-Id:17 \
+    Subsession-Operation:18 QoS-Rule-Report:19 Multiple-BBERF-Action:20 Session-Linking-Indicator:21 QoS-Rule-Install:22 \
+    QoS-Rule-Remove:23 QoS-Rule-Name:24 QoS-Rule-Base-Name:25 QoS-Rule-Definition:26 @ts29219.txt SL-Request-Type:16 \
+    Policy-Counter-Identifier:17 Policy-Counter-Status-Report:18 SN-Request-Type:19 Policy-Counter-Status:20 \
+    Pending-Policy-Counter-Information:21 Pending-Policy-Counter-Change-Time:22 @ts29229.txt Associated-Identities:18 \
+    Associated-Registered-Identities:19 Call-ID-SIP-Header:20 Charging-Information:21 Confidentiality-Key:22 Contact:23 \
+    Deregistration-Reason:24 Feature-List:29 Feature-List-ID:30 From-SIP-Header:31 Identity-with-Emergency-Registration:32 \
+    Integrity-Key:33 LIA-Flags:34 Loose-Route-Indication:35 Mandatory-Capability:36 Multiple-Registration-Indication:37 \
+    Optional-Capability:38 Originating-Request:39 Path:40 Primary-Charging-Collection-Function-Name:41 \
+    Primary-Event-Charging-Function-Name:42 Priviledged-Sender-Indication:43 Public-Identity:44 Reason-Code:45 \
+    Reason-Info:46 Record-Route:47 Restoration-Info:48 SCSCF-Restoration-Info:49 SIP-Authentication-Context:52 \
+    SIP-Digest-Authenticate:55 Secondary-Charging-Collection-Function-Name:58 Secondary-Event-Charging-Function-Name:59 \
+    Server-Assignment-Type:60 Server-Capabilities:61 Server-Name:62 Session-Priority:63 Subscription-Info:64 \
+    Supported-Applications:65 Supported-Features:66 To-SIP-Header:67 UAR-Flags:68 User-Authorization-Type:69 User-Data:70 \
+    User-Data-Already-Available:71 Visited-Network-Identifier:72 Wildcarded-Public-Identity:73 Line-Identifier:74 \
+    @ts29272.txt Subscription-Data:20 Terminal-Information:21 IMEI:22 Software-Version:23 QoS-Subscribed:24 ULR-Flags:25 \
+    ULA-Flags:26 Visited-PLMN-Id:27 Requested-EUTRAN-Authentication-Info:28 Requested-UTRAN-GERAN-Authentication-Info:29 \
+    Number-Of-Requested-Vectors:30 Re-Synchronization-Info:31 Immediate-Response-Preferred:32 Authentication-Info:33 \
+    E-UTRAN-Vector:34 UTRAN-Vector:35 GERAN-Vector:36 Network-Access-Mode:37 HPLMN-ODB:38 Item-Number:39 \
+    Cancellation-Type:40 DSR-Flags:41 DSA-Flags:42 Context-Identifier:43 Subscriber-Status:44 \
+    Operator-Determined-Barring:45 Access-Restriction-Data:46 APN-OI-Replacement:47 \
+    All-APN-Configurations-Included-Indicator:48 APN-Configuration-Profile:49 APN-Configuration:50 \
+    EPS-Subscribed-QoS-Profile:51 VPLMN-Dynamic-Address-Allowed:52 STN-SR:53 Alert-Reason:54 AMBR:55 \
+    CSG-Subscription-Data:56 CSG-Id:57 PDN-GW-Allocation-Type:58 Expiration-Date:59 RAT-Frequency-Selection-Priority-ID:60 \
+    IDA-Flags:61 PUA-Flags:62 NOR-Flags:63 User-Id:64 Equipment-Status:65 Regional-Subscription-Zone-Code:66 RAND:67 \
+    XRES:68 AUTN:69 KASME:70 Trace-Collection-Entity:71 Kc:72 SRES:73 PDN-Type:74 \
+    Roaming-Restricted-Due-To-Unsupported-Feature:75 Trace-Data:76 Trace-Reference:77 Trace-Depth:78 Trace-NE-Type-List:79 \
+    Trace-Interface-List:80 Trace-Event-List:81 OMC-Id:82 GPRS-Subscription-Data:83 \
+    Complete-Data-List-Included-Indicator:84 PDP-Context:85 PDP-Type:86 3GPP2-MEID:87 Specific-APN-Info:88 LCS-Info:89 \
+    GMLC-Number:90 LCS-PrivacyException:91 SS-Code:92 SS-Status:93 Notification-To-UE-User:94 External-Client:95 \
+    Client-Identity:96 GMLC-Restriction:97 PLMN-Client:98 ServiceTypeIdentity:100 MO-LR:101 Teleservice-List:102 \
+    TS-Code:103 Call-Barring-Infor-List:104 SGSN-Number:105 IDR-Flags:106 ICS-Indicator:107 \
+    IMS-Voice-Over-PS-Sessions-Supported:108 Homogeneous-Support-of-IMS-Voice-Over-PS-Sessions:109 \
+    Last-UE-Activity-Time:110 EPS-User-State:111 EPS-Location-Information:112 MME-User-State:113 SGSN-User-State:114 \
+    User-State:115 MME-Location-Information:116 SGSN-Location-Information:117 E-UTRAN-Cell-Global-Identity:118 \
+    Tracking-Area-Identity:119 Cell-Global-Identity:120 Routing-Area-Identity:121 Location-Area-Identity:122 \
+    Service-Area-Identity:123 Geographical-Information:124 Geodetic-Information:125 Current-Location-Retrieved:126 \
+    Age-Of-Location-Information:127 Active-APN:128 Error-Diagnostic:129 Ext-PDP-Address:130 UE-SRVCC-Capability:131 \
+    MPS-Priority:132 VPLMN-LIPA-Allowed:133 LIPA-Permission:134 Subscribed-Periodic-RAU-TAU-Timer:135 Ext-PDP-Type:136 \
+    SIPTO-Permission:137 MDT-Configuration:138 Job-Type:139 Area-Scope:140 List-Of-Measurements:141 Reporting-Trigger:142 \
+    Report-Interval:143 Report-Amount:144 Event-Threshold-RSRP:145 Event-Threshold-RSRQ:146 Logging-Interval:147 \
+    Logging-Duration:148 Relay-Node-Indicator:149 MDT-User-Consent:150 PUR-Flags:151 Subscribed-VSRVCC:152 \
+    Equivalent-PLMN-List:153 CLR-Flags:154 UVR-Flags:155 UVA-Flags:156 VPLMN-CSG-Subscription-Data:157 Time-Zone:158 \
+    A-MSISDN:159 MME-Number-for-MT-SMS:160 SMS-Register-Request:161 Local-Time-Zone:162 Daylight-Saving-Time:163 \
+    Subscription-Data-Flags:164 Measurement-Period-UMTS:165 Measurement-Period-LTE:166 Collection-Period-RRM-LTE:167 \
+    Collection-Period-RRM-UMTS:168 Positioning-Method:169 Measurement-Quantity:170 Event-Threshold-Event-1F:171 \
+    Event-Threshold-Event-1I:172 Served-Party-IP-Address:173 PDP-Address:174 GMLC-Address:175 MIP6-Agent-Info:184 \
+    MIP-Home-Agent-Address:185 MIP-Home-Agent-Host:186 MIP6-Home-Link-Prefix:187 Service-Selection:188 \
+    ProSe-Subscription-Data:189 Adjacent-Access-Restriction-Data:190 DL-Buffering-Suggested-Packet-Count:191 \
+    IMSI-Group-Id:192 UE-Usage-Type:193 AESE-Communication-Pattern:194 Monitoring-Event-Configuration:195 \
+    Emergency-Info:196 V2X-Subscription-Data:197 eDRX-Cycle-Length:198 External-Identifier:199 Active-Time:200 \
+    Service-Gap-Time:201 Broadcast-Location-Assistance-Data-Types:202 Aerial-UE-Subscription-Information:203 \
+    Additional-Context-Identifier:204 Restoration-Priority:205 SIPTO-Local-Network-Permission:206 WLAN-offloadability:207 \
+    Non-IP-PDN-Type-Indicator:208 Non-IP-Data-Delivery-Mechanism:209 SCEF-ID:210 SCEF-Realm:211 Preferred-Data-Mode:212 \
+    PDN-Connection-Continuity:213 RDS-Indicator:214 eNodeB-ID:216 Extended-eNodeB-ID:217 MDT-Allowed-PLMN-Id:218 \
+    MBSFN-Area:219 ProSe-Permission:220 ProSe-Allowed-PLMN:221 Group-Service-Id:222 Group-PLMN-Id:223 Local-Group-Id:224 \
+    SCEF-Reference-ID:225 SCEF-Reference-ID-for-Deletion:226 Communication-Pattern-Set:227 Monitoring-Type:228 \
+    Maximum-Number-of-Reports:229 Monitoring-Duration:230 UE-Reachability-Configuration:232 \
+    Location-Information-Configuration:233 Association-Type:234 PLMN-ID-Requested:235 V2X-Permission:236 UE-PC5-AMBR:237 \
+    eDRX-Cycle-Length-Value:238 WLAN-offloadability-EUTRAN:239 WLAN-offloadability-UTRAN:240 MBSFN-Area-ID:243 \
+    Carrier-Frequency:244 Authorized-Discovery-Range:245 ProSe-Direct-Allowed:246 Periodic-Communication-Indicator:247 \
+    Communication-Duration-Time:248 Periodic-Time:249 Scheduled-Communication-Time:250 Stationary-Indication:251 \
+    Reference-ID-Validity-Time:252 Reachability-Type:253 Maximum-Latency:254 Maximum-Response-Time:255 \
+    MONTE-Location-Type:256 Accuracy:257 @ts29273.txt ANID:19 WLAN-Identifier:21 DER-Flags:22 TWAN-Connection-Mode:23 \
+    TWAN-Connectivity-Parameters:24 TWAG-CP-Address:25 AN-Trusted:27 MIP-FA-RK:28 MIP-FA-RK-SPI:29 DEA-Flags:30 \
+    WLCP-Key:31 Full-Network-Name:32 Short-Network-Name:33 RAR-Flags:34 AAR-Flags:36 Origination-Time-Stamp:37 \
+    Maximum-Wait-Time:38 DER-S6b-Flags:39 HESSID:41 Connectivity-Flags:42 TWAN-PCO:43 TWAG-UP-Address:44 \
+    TWAN-S2a-Failure-Cause:45 SM-Back-Off-Timer:46 @ts29273-swx.txt AAA-Failure-Indication:17 Non-3GPP-User-Data:19 \
+    PPR-Flags:20 Access-Network-Info:21 Emergency-Services:22 Non-3GPP-IP-Access:24 Non-3GPP-IP-Access-APN:25 \
+    MIP6-Feature-Vector:26 Trace-Info:27 Location-Data:31 @ts29329.txt User-Identity:10 MSISDN:11 Sh-User-Data:12 \
+    Data-Reference:13 Service-Indication:14 Subs-Req-Type:15 Requested-Domain:16 Current-Location:17 Identity-Set:18 \
+    Expiry-Time:19 Send-Data-Indication:20 DSAI-Tag:21 Wildcarded-IMPU:22 One-Time-Notification:23 Requested-Nodes:24 \
+    Serving-Node-Indication:25 Repository-Data-ID:26 Sequence-Number:27 UDR-Flags:28 @ts29336.txt User-Identifier:16 \
+    S6-Service-ID:17 SCS-Identity:18 Service-Parameters:19 SIR-Flags:20 Service-Data:21 CIR-Flags:22 Supported-Services:23 \
+    Enhanced-Coverage-Restriction:24 Group-Reporting-Guard-Timer:25 Suggested-Network-Configuration:26 \
+    Monitoring-Event-Report:27 Monitoring-Event-Config-Status:28 AESE-Communication-Pattern-Config-Status:29 \
+    S6t-HSS-Cause:30 Enhanced-Coverage-Restriction-Data:31 CIA-Flags:32 Group-Monitoring-Event-Report:33 RIR-Flags:34 \
+    Monitoring-Event-Report-Status:35 NIDD-Authorization-Request:36 NIDD-Authorization-Update:37 NIR-Flags:38 \
+    NIDD-Authorization-Response:39 NIA-Flags:40 Type-Of-External-Identifier:41 T4-Parameters:42 \
+    Application-Port-Identifier:43 T4-Data:44 Supported-Monitoring-Events:45 Node-Type:46 Restricted-PLMN-List:47 \
+    Allowed-PLMN-List:48 Roaming-Information:49 IMEI-Change:50 Reachability-Information:51 Maximum-UE-Availability-Time:52 \
+    Event-Handling:53 Service-Report:54 Loss-Of-Connectivity-Reason:55 Idle-Status-Indication:56 \
+    PDN-Connectivity-Status-Report:57 Number-Of-UE-Per-Location-Report:58 AESE-Error-Report:59 \
+    Group-Monitoring-Event-Report-Item:60 Requested-Validity-Time:61 Granted-Validity-Time:62 Priority-Indication:63 \
+    SM-RP-SMEA:64 HSS-Cause:65 Service-Result:66 Idle-Status-Timestamp:67 PDN-Connectivity-Status-Type:68 UE-Count:69 \
+    Service-Result-Code:70 @ts29338.txt SMSMI-Correlation-ID:17 SC-Address:18 SM-RP-MTI:19 SRR-Flags:21 \
+    SM-Delivery-Not-Intended:22 SMSF-3GPP-Address:23 SMSF-Non-3GPP-Address:24 MWD-Status:26 \
+    MME-Absent-User-Diagnostic-SM:27 MSC-Absent-User-Diagnostic-SM:28 SGSN-Absent-User-Diagnostic-SM:29 \
+    SMSF-3GPP-Absent-User-Diagnostic-SM:30 SMSF-Non-3GPP-Absent-User-Diagnostic-SM:31 SMS-GMSC-Alert-Event:33 \
+    SM-Delivery-Outcome:34 RDR-Flags:35 OFR-Flags:36 SM-RP-UI:37 SM-Delivery-Failure-Cause:38 TFR-Flags:39 \
+    SM-Delivery-Timer:40 SM-Delivery-Start-Time:41 SMS-GMSC-Address:43 Absent-User-Diagnostic-SM:44 HSS-ID:46 \
+    Originating-SIP-URI:47 Destination-SIP-URI:48 SMSF-3GPP-Number:49 SMSF-3GPP-Name:50 SMSF-3GPP-Realm:51 \
+    SMSF-Non-3GPP-Number:52 SMSF-Non-3GPP-Name:53 SMSF-Non-3GPP-Realm:54 MME-SM-Delivery-Outcome:56 \
+    MSC-SM-Delivery-Outcome:57 SGSN-SM-Delivery-Outcome:58 IP-SM-GW-SM-Delivery-Outcome:59 \
+    SMSF-3GPP-SM-Delivery-Outcome:60 SMSF-Non-3GPP-SM-Delivery-Outcome:61 SM-Enumerated-Delivery-Failure-Cause:62 \
+    SM-Diagnostic-Info:63 SM-Delivery-Cause:64 @ts32299.txt AF-Correlation-Information:17 Access-Network-Information:18 \
+    Access-Transfer-Information:19 Access-Transfer-Type:20 Account-Expiration:21 Accumulated-Cost:22 Adaptations:23 \
+    Additional-Content-Information:24 Additional-Type-Information:25 Address-Data:26 Address-Domain:27 Address-Type:28 \
+    Addressee-Type:29 Alternate-Charged-Party-Address:30 AoC-Cost-Information:31 AoC-Format:32 AoC-Information:33 \
+    AoC-Request-Type:34 AoC-Service:35 AoC-Service-Obligatory-Type:36 AoC-Service-Type:37 AoC-Subscription-Information:38 \
+    Applic-ID:39 Application-Server:40 Application-Server-Information:41 Application-Provided-Called-Party-Address:42 \
+    Associated-Party-Address:43 Associated-URI:44 Aux-Applic-Info:45 Base-Time-Interval:46 Bearer-Service:47 CG-Address:48 \
+    CSG-Access-Mode:49 CSG-Membership-Indication:50 CUG-Information:51 Called-Asserted-Identity:52 Called-Party-Address:53 \
+    Calling-Party-Address:54 Carrier-Select-Routing-Information:55 Cause-Code:56 Change-Condition:57 Change-Time:58 \
+    Charge-Reason-Code:59 Charged-Party:60 Charging-Characteristics-Selection-Mode:61 Class-Identifier:62 \
+    Client-Address:63 Content-Class:64 Content-Disposition:65 Content-Length:66 Content-Size:67 Content-Type:68 \
+    Current-Tariff:69 DRM-Content:70 Data-Coding-Scheme:71 Deferred-Location-Event-Type:72 Delivery-Report-Requested:73 \
+    Destination-Interface:74 Diagnostics:75 Domain-Name:76 Dynamic-Address-Flag:77 Dynamic-Address-Flag-Extension:78 \
+    Early-Media-Description:79 Envelope:80 Envelope-End-Time:81 Envelope-Reporting:82 Envelope-Start-Time:83 Event:84 \
+    Event-Charging-TimeStamp:85 Event-Type:86 Expires:87 File-Repair-Supported:88 From-Address:89 GGSN-Address:90 \
+    IMS-Application-Reference-Identifier:91 IMS-Charging-Identifier:92 IMS-Communication-Service-Identifier:93 \
+    IMS-Emergency-Indicator:94 IMS-Information:95 IMSI-Unauthenticated-Flag:96 IP-Realm-Default-Indication:97 \
+    Incoming-Trunk-Group-Id:98 Incremental-Cost:99 Initial-IMS-Charging-Identifier:100 Inter-Operator-Identifier:101 \
+    Interface-Id:102 Interface-Port:103 Interface-Text:104 Interface-Type:105 LCS-APN:106 LCS-Client-Dialed-By-MS:107 \
+    LCS-Client-External-ID:108 LCS-Client-Id:109 LCS-Client-Name:110 LCS-Client-Type:111 LCS-Data-Coding-Scheme:112 \
+    LCS-Format-Indicator:113 LCS-Information:114 LCS-Name-String:115 LCS-Requestor-Id:116 LCS-Requestor-Id-String:117 \
+    Local-GW-Inserted-Indication:118 Local-Sequence-Number:119 Location-Estimate:120 Location-Estimate-Type:121 \
+    Location-Type:122 Low-Balance-Indication:123 Low-Priority-Indicator:124 MBMS-GW-Address:125 MBMS-Information:126 \
+    MBMS-User-Service-Type:127 MM-Content-Type:128 MMBox-Storage-Requested:129 MMS-Information:130 MMTel-Information:131 \
+    MMTel-SService-Type:132 Media-Initiator-Flag:133 Media-Initiator-Party:134 Message-Body:135 Message-Class:136 \
+    Message-ID:137 Message-Size:138 Message-Type:139 NNI-Information:140 NNI-Type:141 Neighbour-Node-Address:142 \
+    Next-Tariff:143 Node-Functionality:144 Node-Id:145 Number-Of-Diversions:146 Number-Of-Messages-Sent:147 \
+    Number-Of-Participants:148 Number-Of-Received-Talk-Bursts:149 Number-Of-Talk-Bursts:150 \
+    Number-Portability-Routing-Information:151 Offline-Charging:152 Online-Charging-Flag:153 Originating-IOI:154 \
+    Originator:155 Originator-Address:156 Originator-Interface:157 Originator-Received-Address:158 \
+    Originator-SCCP-Address:159 Outgoing-Session-Id:160 Outgoing-Trunk-Group-Id:161 PDG-Address:162 PDG-Charging-Id:163 \
+    PDN-Connection-Charging-ID:164 PDP-Address-Prefix-Length:166 PDP-Context-Type:167 PS-Append-Free-Format-Data:168 \
+    PS-Free-Format-Data:169 PS-Furnish-Charging-Information:170 PS-Information:171 Participant-Access-Priority:172 \
+    Participant-Action-Type:173 Participant-Group:174 Participants-Involved:175 PoC-Change-Condition:176 \
+    PoC-Change-Time:177 PoC-Controlling-Address:178 PoC-Event-Type:179 PoC-Group-Name:180 PoC-Information:181 \
+    PoC-Server-Role:182 PoC-Session-Id:183 PoC-Session-Initiation-type:184 PoC-Session-Type:185 PoC-User-Role:186 \
+    PoC-User-Role-IDs:187 PoC-User-Role-info-Units:188 Positioning-Data:189 Preferred-AoC-Currency:190 Priority:191 \
+    Quota-Consumption-Time:192 Quota-Holding-Time:193 Rate-Element:194 Read-Reply-Report-Requested:195 \
+    Real-Time-Tariff-Information:196 Received-Talk-Burst-Time:197 Received-Talk-Burst-Volume:198 Recipient-Address:199 \
+    Recipient-Info:200 Recipient-Received-Address:201 Recipient-SCCP-Address:202 Refund-Information:203 \
+    Relationship-Mode:204 Remaining-Balance:205 Reply-Applic-ID:206 Reply-Path-Requested:207 Reporting-Reason:208 \
+    Requested-Party-Address:209 Role-Of-Node:210 SDP-Answer-Timestamp:211 SDP-Media-Component:212 \
+    SDP-Media-Description:213 SDP-Media-Name:214 SDP-Offer-Timestamp:215 SDP-Session-Description:216 SDP-TimeStamps:217 \
+    SDP-Type:218 SGSN-Address:219 SGW-Address:220 SGW-Change:221 SIP-Request-Timestamp:223 \
+    SIP-Request-Timestamp-Fraction:224 SIP-Response-Timestamp:225 SIP-Response-Timestamp-Fraction:226 \
+    SM-Discharge-Time:227 SM-Message-Type:228 SM-Protocol-ID:229 SM-Service-Type:230 SM-Status:231 SM-User-Data-Header:232 \
+    SMS-Information:233 SMS-Node:234 SMSC-Address:235 Scale-Factor:236 Service-Data-Container:238 Service-Id:239 \
+    Service-Information:240 Service-Mode:241 Service-Specific-Data:242 Service-Specific-Info:243 Service-Specific-Type:244 \
+    Serving-Node-Type:245 Session-Direction:246 Start-Time:247 Status:248 Stop-Time:249 Submission-Time:250 \
+    Subscriber-Role:251 Supplementary-Service:252 Talk-Burst-Exchange:253 Talk-Burst-Time:254 Talk-Burst-Volume:255 \
+    Tariff-Information:256 Tariff-XML:257 Terminating-IOI:258 Time-First-Usage:259 Time-Last-Usage:260 \
+    Time-Quota-Mechanism:261 Time-Quota-Threshold:262 Time-Quota-Type:263 Time-Stamps:264 Time-Usage:265 Token-Text:266 \
+    Traffic-Data-Volumes:267 Transcoder-Inserted-Indication:268 Transit-IOI-List:269 Trigger:270 Trigger-Type:271 \
+    Trunk-Group-Id:272 Type-Number:273 Unit-Cost:274 Unit-Quota-Threshold:275 User-CSG-Information:276 \
+    User-Participating-Type:277 User-Session-Id:278 Volume-Quota-Threshold:279 WAG-Address:280 WAG-PLMN-Id:281 \
+    WLAN-Information:282 WLAN-Radio-Container:283 WLAN-Session-Id:284 WLAN-Technology:285 WLAN-UE-Local-IPAddress:286 \
+    Cellular-Network-Information:287 Inter-UE-Transfer:288 Instance-Id:289 Related-IMS-Charging-Identifier:290 \
+    Related-IMS-Charging-Identifier-Node:291 TMGI:292 MBMS-Service-Type:293 Required-MBMS-Bearer-Capabilities:294 \
+    MBMS-2G-3G-Indicator:295 MBMS-Service-Area:296 MBMS-Session-Identity:297 CN-IP-Multicast-Distribution:298 VASP-ID:299 \
+    VAS-ID:300 ePDG-Address:301 TWAG-Address:302 User-Location-Info-Time:303 Presence-Reporting-Area-Information:304 \
+    3GPP2-BSID:305 TWAN-User-Location-Info:306 UWAN-User-Location-Info:307 NBIFOM-Mode:309 NBIFOM-Support:310 MME-Name:312 \
+    MME-Realm:313 Logical-Access-ID:314 Physical-Access-ID:315 Fixed-User-Location-Info:316 \
+    CN-Operator-Selection-Entity:317 Enhanced-Diagnostics:318 SGi-PtP-Tunnelling-Method:319 \
+    CP-CIoT-EPS-Optimisation-Indicator:320 UNI-PDU-CP-Only-Flag:321 Serving-PLMN-Rate-Control:322 APN-Rate-Control:323 \
+    Charging-Per-IP-CAN-Session-Indicator:324 RRC-Cause-Counter:325 Presence-Reporting-Area-Status:326 \
+    Related-Change-Condition-Information:327 Service-Generic-Information:328 IM-Information:329 DCD-Information:330 \
+    Access-Availability-Change-Reason:331 Operator-Name:333 Location-Information:334 \
+    Presence-Reporting-Area-Identifier:335 Presence-Reporting-Area-Elements-List:336 Presence-Reporting-Area-Node:337 \
+    SSID:338 BSSID:339 RAN-NAS-Release-Cause:343 Uplink-Rate-Limit:344 Downlink-Rate-Limit:345 APN-Rate-Control-Uplink:346 \
+    APN-Rate-Control-Downlink:347 Counter-Value:348 RRC-Counter-Timestamp:349 Application-Server-ID:350 \
+    Application-Service-Type:351 Application-Session-ID:352 Delivery-Status:353 \
+    Number-Of-Messages-Successfully-Exploded:354 Number-Of-Messages-Successfully-Sent:355 \
+    Total-Number-Of-Messages-Exploded:356 Total-Number-Of-Messages-Sent:357 Content-ID:358 Content-provider-ID:359 \
+    Additional-Exception-Reports:360 Rate-Control-Time-Unit:361 Rate-Control-Max-Rate:362 \
+    Rate-Control-Max-Message-Size:363\
     ";
 
 /// The file of `dictionaries/` that declares an AVP of this name, and the number of the line.

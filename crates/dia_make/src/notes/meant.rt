@@ -1,5 +1,11 @@
 //! What may be meant by a word that is at fault.
 
+use crate::notes::dated::is_dated;
+use crate::notes::hints::{
+    CLOSED, COLON, COMMA, DICTIONARY, DIGITS, ESCAPED, MEMBER, NUMBER, OTHER_QUOTES, PAIRS,
+    RETURNS, SHOWN, SIGN,
+};
+use crate::notes::others::{is_digits_of_message, is_of_dictionary};
 use crate::notes::shown::is_shown;
 use crate::numbered::{has_letter, may_be_word};
 use dia_text::Wanted;
@@ -17,38 +23,25 @@ pub enum Meant {
     Text,
     /// The same, or an address of four numbers as bytes.
     Address,
-    /// The next message: the line before has a carriage return, and else nothing.
-    Returns,
-    /// A text that has no closing quote.
-    Closed,
-    /// A text in which a backslash has no two digits.
-    Escaped,
-    /// Digits, of which one has no second.
-    Pairs,
-    /// A name or a value with `=` or `:` between them.
-    Sign,
-    /// A text in other quotes.
-    OtherQuotes,
-    /// A number in quotes.
-    Number,
-    /// A line that `show` prints.
-    Shown,
-    /// A comma after an AVP that is in no group on one line.
-    Comma,
-    /// The next member of a group on one line, without a comma before it.
-    Member,
     /// A word of values.
     Word,
+    /// A date after another value.
+    Date,
+    /// What the hint says.
+    Hint(&'static str),
 }
 
 /// What may be meant by a word in place of what is wanted. `line` has the word, and `before` is the text before the line.
 pub fn meant_of(wanted: Wanted, word: &[u8], line: &[u8], before: &[u8]) -> Meant {
     match wanted {
-        _ if is_shown(line) => Meant::Shown,
+        _ if is_shown(line) => Meant::Hint(SHOWN),
+        Wanted::CommandName if is_of_dictionary(line) => Meant::Hint(DICTIONARY),
+        Wanted::CommandName if is_digits_of_message(word) => Meant::Hint(DIGITS),
+        Wanted::AvpName if has_colon(word) => Meant::Hint(COLON),
         Wanted::CommandName | Wanted::AvpName | Wanted::Hop | Wanted::End | Wanted::AnyValue
-            if has_sign(word) => { Meant::Sign }
+            if has_sign(word) => { Meant::Hint(SIGN) }
         Wanted::CommandName if has_letter(word) => Meant::Command,
-        Wanted::AvpName if before.ends_with(b"\n\r\n") => Meant::Returns,
+        Wanted::AvpName if before.ends_with(b"\n\r\n") => Meant::Hint(RETURNS),
         Wanted::AvpName if has_letter(word) => Meant::Avp,
         Wanted::Text | Wanted::TextOrBytes | Wanted::BytesOfUnknown => meant_text(wanted, word),
         Wanted::Unsigned32 | Wanted::Signed32 | Wanted::Unsigned64 | Wanted::Signed64
@@ -60,31 +53,32 @@ pub fn meant_of(wanted: Wanted, word: &[u8], line: &[u8], before: &[u8]) -> Mean
         | Wanted::Group
         | Wanted::Address
         | Wanted::Bytes => meant_number(word),
-        Wanted::LineEnd if word == b",".as_slice() => Meant::Comma,
-        Wanted::NextMember if !word.is_empty() => Meant::Member,
+        Wanted::LineEnd | Wanted::NextMember if is_dated(word) => Meant::Date,
+        Wanted::LineEnd if word == b",".as_slice() => Meant::Hint(COMMA),
+        Wanted::NextMember if !word.is_empty() => Meant::Hint(MEMBER),
         _ => Meant::Nothing,
     }
 }
 
 fn meant_number(word: &[u8]) -> Meant {
     match word {
-        [b'=' | b':', ..] => Meant::Sign,
-        [b'"' | b'\'', ..] => Meant::Number,
-        _ if is_uneven(word) => Meant::Pairs,
+        [b'=' | b':', ..] => Meant::Hint(SIGN),
+        [b'"' | b'\'', ..] => Meant::Hint(NUMBER),
+        _ if is_uneven(word) => Meant::Hint(PAIRS),
         _ => Meant::Nothing,
     }
 }
 
 fn meant_text(wanted: Wanted, word: &[u8]) -> Meant {
     match word {
-        _ if is_uneven(word) => Meant::Pairs,
+        _ if is_uneven(word) => Meant::Hint(PAIRS),
         [b'x', ..] => Meant::Nothing,
-        [b'=' | b':', ..] => Meant::Sign,
-        [b'"'] => Meant::Closed,
-        [b'"', .., b'"'] => Meant::Escaped,
-        [b'"', ..] => Meant::Closed,
+        [b'=' | b':', ..] => Meant::Hint(SIGN),
+        [b'"'] => Meant::Hint(CLOSED),
+        [b'"', .., b'"'] => Meant::Hint(ESCAPED),
+        [b'"', ..] => Meant::Hint(CLOSED),
         _ if after_other_quote(word).is_some() && in_other_quotes(word).is_none() => {
-            Meant::OtherQuotes
+            Meant::Hint(OTHER_QUOTES)
         }
         _ if wanted != Wanted::Text && is_dotted(word) => Meant::Address,
         _ => Meant::Text,
@@ -94,6 +88,18 @@ fn meant_text(wanted: Wanted, word: &[u8]) -> Meant {
 /// Whether a word has `=` in it, or ends with `:`.
 fn has_sign(word: &[u8]) -> bool {
     word.contains(&b'=') || word.ends_with(b":")
+}
+
+/// Digits, `:`, and digits.
+fn has_colon(word: &[u8]) -> bool {
+    let Some(last) = word.last() else {
+        return false;
+    };
+    last.is_ascii_digit()
+        && word.contains(&b':')
+        && word
+            .iter()
+            .all(|byte| byte.is_ascii_digit() || *byte == b':')
 }
 
 /// `x` and hexadecimal digits, of which one has no second.

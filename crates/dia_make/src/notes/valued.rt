@@ -135,6 +135,18 @@ fn push_words(note: &mut Note, name: &[u8], words: &[&str]) {
     note.put("\n");
 }
 
+/// The name of the AVP whose piece of a line holds a place.
+pub fn name_at<'p>(
+    alloc: Global,
+    line: &'p [u8],
+    at: usize,
+) -> Result<Option<&'p [u8]>, AllocError> {
+    match piece_at(alloc, line, at)? {
+        Some(piece) => Ok(Some(piece.name())),
+        None => Ok(None),
+    }
+}
+
 /// The piece of a line that holds a place.
 fn piece_at<'p>(alloc: Global, line: &'p [u8], at: usize) -> Result<Option<Piece<'p>>, AllocError> {
     let mut found = None;

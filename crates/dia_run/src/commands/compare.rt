@@ -1,7 +1,7 @@
 //! `compare`: whether a table of pairs shows that what is valid under the first dictionary is valid under the second.
 
 ghost use Rattle.std.specs.Prelude.{◌≡◌, IfOk, string_bytes};
-ghost use Rattle.dia_tables.specs.TableText.{plain_table, plain_pair};
+ghost use Rattle.dia_compat.specs.TableText.{plain_table, plain_pair};
 ghost use Rattle.dia_run.specs.Kinds.{IsOfCompare, Reports};
 ghost use Rattle.dia_run.specs.Outcome.{IsCompareOutcome};
 ghost use Rattle.dia_run.specs.Pairs.{IsAnswerText, NamesPair, failure_line, test_word};
@@ -11,11 +11,10 @@ use crate::commands::{Outcome, recorded};
 use crate::inputs::dictionary::read_dictionary;
 use crate::inputs::table::read_table;
 use dia_check::Unknown;
+use dia_compat::{Answer, PairKind, Table, Test, Verdict, judge_table};
 use dia_dict::{Book, IndexedBook};
-use dia_inclusion::{Answer, PairKind, Test, Verdict, judge_table};
 use dia_io::{Exit, Inputs};
 use dia_report::{Answered, BothBooks, Compared, Refused, Report};
-use dia_tables::Table;
 use std::alloc::{AllocError, Global};
 
 /// The answer for both dictionaries and the table.

@@ -1,8 +1,8 @@
 //! `propose`: the least table of pairs for some commands of the first dictionary.
 
 ghost use Rattle.std.specs.Prelude.{◌≡◌, map, IfOk, string_bytes};
-ghost use Rattle.dia_tables.specs.WrittenTable.{table_text};
-ghost use Rattle.dia_tables.specs.TableText.{plain_table};
+ghost use Rattle.dia_compat.specs.WrittenTable.{table_text};
+ghost use Rattle.dia_compat.specs.TableText.{plain_table};
 ghost use Rattle.dia_run.specs.Kinds.{IsOfPropose, Reports};
 ghost use Rattle.dia_run.specs.Outcome.{IsProposeOutcome, no_command_line};
 ghost use Rattle.dia_run.specs.Report.{Answers, HasReport};
@@ -10,11 +10,10 @@ ghost use Rattle.dia_run.specs.Texts.{line};
 
 use crate::inputs::dictionary::read_dictionary;
 use dia_check::Unknown;
+use dia_compat::{ProposeFault, Table, render_table};
 use dia_dict::{Book, IndexedBook};
-use dia_inclusion::ProposeFault;
 use dia_io::{Exit, Inputs};
 use dia_report::{Answered, BothBooks, Refused, Report};
-use dia_tables::{Table, render_table};
 use std::alloc::{AllocError, Global};
 
 /// The table for the named commands of the first dictionary.
@@ -31,7 +30,7 @@ pub fn propose(
 {
     let first = read_dictionary(alloc, 1, &inputs.first)?;
     let second = read_dictionary(alloc, 2, &inputs.second)?;
-    match dia_inclusion::propose(alloc, &first.book, &second.book, unknown, names) {
+    match dia_compat::propose(alloc, &first.book, &second.book, unknown, names) {
         Ok(table) => {
             let answered = listed(alloc, &table)?;
             Ok(answered)

@@ -59,7 +59,7 @@ pub fn read_dictionary(alloc: Global, number: u8, input: &Input) -> Result<Box<R
     match book_of(alloc, &source) {
         Ok(book) => indexed(alloc, source, book),
         Err(DictFault::NoMemory) => Err(Refused::NoMemory),
-        Err(DictFault::Occurs { kind, name, slot }) => {
+        Err(DictFault::Stands { kind, name, slot }) => {
             let found = boxed(alloc, source, kind, name, slot)?;
             Err(deliver(number, BadDictionary::Wrong(found)))
         }

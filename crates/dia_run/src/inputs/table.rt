@@ -2,14 +2,14 @@
 
 ghost use Rattle.std.specs.Prelude.{◌≡◌, ◌≢◌, IfOk, IfErr};
 ghost use Rattle.dia_io.specs.declared.Input.{Input as AnyInput};
-ghost use Rattle.dia_tables.specs.TableText.{plain_table};
+ghost use Rattle.dia_compat.specs.TableText.{plain_table};
 ghost use Rattle.dia_report.specs.Refusals.{table_line, RecordsOf, bad_table_text};
 ghost use Rattle.dia_run.specs.Pairs.{IsTableText, IsNoTableText, table_fault_text};
 ghost use Rattle.dia_run.specs.Report.{HasFinding};
 
+use dia_compat::{MAX_TABLE, Table, TableFault, parse_table};
 use dia_io::Input;
 use dia_report::{BadInput, BadTable, Refused};
-use dia_tables::{MAX_TABLE, Table, TableFault, parse_table};
 use std::alloc::Global;
 
 /// The table that an input's text spells. A text that spells none is refused, as standard output reports: too long, no UTF-8,

@@ -5,10 +5,12 @@ ghost use Rattle.std.specs.Prelude.{◌≤◌};
 use super::pieces::feed_pieces;
 use super::{AVPS, WATCHDOG, feed};
 use crate::books::{Books, Task, is_verdict};
+use crate::running::{input, no_inputs, writes};
 use dia_check::{Levels, Stream, Unknown};
 use dia_dict::{Book, base_text};
 use dia_rows::{RowFault, bytes_of};
-use std::alloc::Global;
+use dia_run::{Command, Input};
+use std::alloc::{AllocError, Global};
 use std::process::Abort;
 
 /// How many groups lie in one another.
@@ -114,17 +116,54 @@ fn goes_down_half_a_million_levels(rt: HostRuntime) {
 }
 
 /// Groups of one kind that hold each other, and a command of them.
-const NODES: &str =
+pub const NODES: &str =
     "<Node> ::= < AVP Header: 9001 > * [ Node ] <T> ::= < Diameter Header: 301, REQ > * [ Node ]";
 
 /// The verdict on a message of `NODES`.
 const VALID: &str = "0 valid T\n";
 
 /// A message of `NODES` with so many groups in one another, and nothing else.
-fn nodes(alloc: Global, depth: u32) -> Result<Vec<u8>, RowFault>
+pub fn nodes(alloc: Global, depth: u32) -> Result<Vec<u8>, RowFault>
     requires { depth ≤ 1000000 }
 {
     groups(alloc, (301, 9001), depth, ("", "", ""))
+}
+
+/// Limits, and the verdicts on a message of `NODES` of 100,000 groups, the innermost at 20 + 8 * 99999.
+const NODE_LIMITS: [(Levels, &str); 3] = [
+    (Levels::Any, VALID),
+    (Levels::AtMost(100_000), VALID),
+    (
+        Levels::AtMost(99_999),
+        "1 fault 5012 at 800012 depth Node\n",
+    ),
+];
+
+/// So do both books and `run` over a message of groups alone.
+#[test]
+fn goes_as_deep_as_nodes(rt: HostRuntime) {
+    let message = nodes(rt.alloc(), DEPTH).expect(&rt, "a message");
+    let books = Books::new(&rt, NODES.as_bytes());
+    let mut inputs = no_inputs(rt.alloc());
+    inputs.first = input(&rt, NODES);
+    inputs.message = Input::Bytes(digits_of(rt.alloc(), message.as_slice()).expect(&rt, "memory"));
+    for (levels, wanted) in NODE_LIMITS.iter() {
+        judges(&rt, &books, *levels, message.as_slice(), wanted);
+        let command = Command::Check {
+            unknown: Unknown::Kept,
+            levels: *levels,
+        };
+        writes(&rt, &command, &inputs, wanted.as_bytes(), wanted);
+    }
+}
+
+/// The hexadecimal digits of bytes.
+fn digits_of(alloc: Global, bytes: &[u8]) -> Result<Vec<u8>, AllocError> {
+    let mut text = String::new(alloc);
+    for byte in bytes {
+        write!(text, "{byte:02x}")?;
+    }
+    Ok(text.into_bytes())
 }
 
 #[test]

@@ -83,6 +83,33 @@ fn takes_one_avp_that_fills_the_message(rt: HostRuntime) {
     }
 }
 
+/// A command of any AVPs, and the first bytes of a message of it: the head of an unknown AVP that fills the rest.
+const ANY: &str = "<T> ::= < Diameter Header: 302, REQ > * [ AVP ]";
+
+const UNKNOWN_HEAD: &str = "01fffffc8000012e0000000000000001000000020000270f00ffffe8";
+
+/// The message of the unknown AVP, whose data are zeros.
+fn unknown(alloc: Global) -> Result<Vec<u8>, RowFault> {
+    let mut bytes = bytes_of(alloc, UNKNOWN_HEAD.as_bytes())?;
+    bytes.resize(LENGTH, 0)?;
+    Ok(bytes)
+}
+
+#[test]
+fn takes_one_unknown_avp(rt: HostRuntime) {
+    let bytes = unknown(rt.alloc()).expect(&rt, "a message");
+    let books = Books::new(&rt, ANY.as_bytes());
+    let task = Task {
+        unknown: Unknown::Kept,
+        levels: Levels::Any,
+        message: bytes.as_slice(),
+        wanted: "0 valid T\n",
+    };
+    books.judge(&rt, task);
+    feed_pieces(&rt, &*books.plain, task, 4_096);
+    feed_pieces(&rt, &*books.indexed, task, 4_096);
+}
+
 #[test]
 fn takes_many_avps(rt: HostRuntime) {
     let bytes = repeated(rt.alloc()).expect(&rt, "a message");

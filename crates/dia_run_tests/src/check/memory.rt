@@ -4,10 +4,10 @@
 
 ghost use Rattle.std.specs.Prelude.{◌<◌};
 
-use super::AVPS;
-use super::deep::nested;
+use super::deep::{NODES, nodes};
+use crate::refused::book_of;
 use dia_check::{Levels, Refusal, Selected, Stream, StreamFault, Unknown};
-use dia_dict::{Book, Class, IndexedBook, base_book};
+use dia_dict::{Book, Class, IndexedBook};
 use std::process::Abort;
 
 /// A stream that is fed pieces of a size answers for the message, or is spent where memory is refused.
@@ -22,12 +22,12 @@ fn feeds_or_is_spent<B: Book>(rt: &(impl AllocGlobal + Abort), book: &B, bytes: 
             return;
         }
     }
-    assert!(rt; stream.finish().ok() == watchdog(book));
+    assert!(rt; stream.finish().ok() == the_command(book));
 }
 
-/// The answer for a watchdog request.
-fn watchdog<B: Book>(book: &B) -> Option<Selected> {
-    let def = book.select(280, Class::Request, 0)?;
+/// The answer for the message.
+fn the_command<B: Book>(book: &B) -> Option<Selected> {
+    let def = book.select(301, Class::Request, 0)?;
     Some(Selected { def })
 }
 
@@ -48,11 +48,10 @@ fn feeds_all<B: Book>(rt: &(impl AllocGlobal + Abort), book: &B, bytes: &[u8]) {
 
 #[test]
 fn a_stream_answers_or_memory_is_refused(rt: HostRuntime) {
-    let Ok(bytes) = nested(rt.alloc(), 1000, AVPS, "") else {
+    let Ok(bytes) = nodes(rt.alloc(), 1000) else {
         return;
     };
-    // An error says that there was no memory for a book.
-    let Ok(plain) = base_book(rt.alloc()) else {
+    let Some(plain) = book_of(rt.alloc(), NODES) else {
         return;
     };
     feeds_all(&rt, &plain, bytes.as_slice());

@@ -4,6 +4,7 @@ ghost use Rattle.std.specs.Prelude.{◌<◌, ◌≤◌, length};
 
 use super::feed;
 use crate::books::{Task, is_verdict};
+use byteorder::{BigEndian, ByteOrder};
 use dia_check::{Levels, Refusal, Room, Selected, Stream, Unknown, check, check_in};
 use dia_dict::Book;
 use std::process::Abort;
@@ -11,8 +12,8 @@ use std::process::Abort;
 /// The bytes that a message has, as far as a stream takes them: none after it.
 fn message_length(bytes: &[u8]) -> usize {
     match bytes {
-        [1, high, middle, low, ..] if bytes.len() >= 20 => {
-            let length = *high as usize * 65536 + *middle as usize * 256 + *low as usize;
+        [1, ..] if bytes.len() >= 20 => {
+            let length = BigEndian::read_u24(&bytes[1..]) as usize;
             if length < 20 || length % 4 != 0 {
                 20
             } else {

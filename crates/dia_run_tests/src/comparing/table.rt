@@ -4,10 +4,10 @@
 //! `syntax LINE` or `limit LINE`; or `renders TEXT`, where the table is written as that, and read from it again.
 
 use crate::words::same;
-use dia_rows::{Names, Row};
-use dia_tables::{
+use dia_compat::{
     TableFault, one_table, one_table_fault, parse_table, read_tables_are_writable, render_table,
 };
+use dia_rows::{Names, Row};
 use std::alloc::{AllocError, Global};
 use std::process::Abort;
 

@@ -70,6 +70,15 @@ compare kept | $X $T { X } | $X $T 1*3 { X } | $REQUESTS$LINE*65535 => 0 yes\n
 compare kept | $X $T { X } | $X $T 1*3 { X } | $REQUESTS$LINE*65535 avp X = X => 2 table: limit at line 65537\n
 compare kept | $X $T { X } | $X $T 1*3 { X } | avp $N*129 = X => 2 table: limit at line 1\n
 
+# A name of 128 bytes in dictionaries and in a table.
+let LONG = %avp $N*128 9002 Unsigned32 any $T { $N*128 }
+compare kept | $LONG | $LONG | $REQUESTS avp $N*128 = $N*128 => 0 yes\n
+
+# A dictionary has 1,048,576 bytes at most, blanks counted.
+let BLANK = \x20
+compare kept | $X $T { X }$BLANK*1048506 | $X $T 1*3 { X } | $PAIRS => 0 yes\n
+compare kept | $X $T { X }$BLANK*1048507 | $X $T 1*3 { X } | $PAIRS => 2 dictionary 1: too long\n
+
 # 65,536 pairs of commands, and a line at fault behind as many as may stand before it.
 compare kept | $T | $T | $REQUESTS*65536 => 0 yes\n
 compare kept | $T | $T | $REQUESTS*65537 => 2 table: limit at line 65537\n

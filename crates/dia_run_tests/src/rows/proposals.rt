@@ -26,6 +26,7 @@ propose refused | $base | $base => 0
 propose kept DWR Q R | $base | $base => 2 propose: no command Q\n
 
 # The first name of no command.
+propose kept T Q | $X $T { X } | $X $T 1*3 { X } => 2 propose: no command Q\n
 propose kept T Q R | $X $T { X } | $X $T 1*3 { X } => 2 propose: no command Q\n
 
 # The empty name is no command's.

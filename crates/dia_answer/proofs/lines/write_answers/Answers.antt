@@ -10,41 +10,41 @@ use Rattle.dia_answer.proofs.lines.write_answers.Goals as goal
 
 pub returns-in-Err-clause-answered : goal.returns-in-Err-clause-answered
 returns-in-Err-clause-answered g c =
-    refusal_answered (replies c.args.unknown c.args.levels) c.args.inputs.now (g.F.Feed.remaining c.args.feed.now) (g.S.Sink.written c.args.sink.now) (g.S.Sink.written c.refuse.new.sink)
+    refusal_answered (replies c.args.names.now.host.now c.args.names.now.realm.now c.args.unknown c.args.levels) c.args.inputs.now (g.F.Feed.remaining c.args.feed.now) (g.S.Sink.written c.args.sink.now) (g.S.Sink.written c.refuse.new.sink)
     c.in-Err.refused c.refuse.result
     c.in-Err.ensures.recorded c.refuse.ensures.memory c.refuse.ensures.exit c.refuse.ensures.put
 
 pub returns-in-Err-clause-front : goal.returns-in-Err-clause-front
 returns-in-Err-clause-front g c =
-    refusal_front (replies c.args.unknown c.args.levels) c.args.inputs.now (g.F.Feed.remaining c.args.feed.now) (g.S.Sink.written c.args.sink.now) (g.S.Sink.written c.refuse.new.sink)
+    refusal_front (replies c.args.names.now.host.now c.args.names.now.realm.now c.args.unknown c.args.levels) c.args.inputs.now (g.F.Feed.remaining c.args.feed.now) (g.S.Sink.written c.args.sink.now) (g.S.Sink.written c.refuse.new.sink)
     c.in-Err.refused c.refuse.result
     c.in-Err.ensures.recorded c.refuse.ensures.memory c.refuse.ensures.front c.refuse.ensures.no_memory c.refuse.ensures.counted
 
 pub returns-in-Err-clause-no_memory : goal.returns-in-Err-clause-no_memory
 returns-in-Err-clause-no_memory g c = λ is.
-    refusal_nothing (replies c.args.unknown c.args.levels) c.args.inputs.now (g.F.Feed.remaining c.args.feed.now) (g.S.Sink.written c.args.sink.now) (g.S.Sink.written c.refuse.new.sink)
+    refusal_nothing (replies c.args.names.now.host.now c.args.names.now.realm.now c.args.unknown c.args.levels) c.args.inputs.now (g.F.Feed.remaining c.args.feed.now) (g.S.Sink.written c.args.sink.now) (g.S.Sink.written c.refuse.new.sink)
     (c.refuse.ensures.no_memory is)
 
 pub returns-clause-front : goal.returns-clause-front
 returns-clause-front g c = λ err.
-    front_put (replies c.args.unknown c.args.levels) c.args.inputs.now _ _ exit_of
-    (of_outcome c.args.unknown c.args.levels c.args.inputs.now _ (rw (← c.deref.ensures) at c.in-Ok.ensures.book)) _ _ _ _ (c.run_replies.ensures.front err)
+    front_put (replies c.args.names.now.host.now c.args.names.now.realm.now c.args.unknown c.args.levels) c.args.inputs.now _ _ exit_of
+    (of_outcome c.args.names.now.host.now c.args.names.now.realm.now c.args.unknown c.args.levels c.args.inputs.now _ (rw (← c.deref.ensures) at c.in-Ok.ensures.book)) _ _ _ _ (c.run_replies.ensures.front err)
 
 pub returns-clause-no_memory : goal.returns-clause-no_memory
 returns-clause-no_memory g c = λ e.
-    lines_answered (replies c.args.unknown c.args.levels) c.args.inputs.now _ _ exit_of
-    (of_outcome c.args.unknown c.args.levels c.args.inputs.now _ (rw (← c.deref.ensures) at c.in-Ok.ensures.book)) _ _ _ _ (c.run_replies.ensures.no_memory e)
+    lines_answered (replies c.args.names.now.host.now c.args.names.now.realm.now c.args.unknown c.args.levels) c.args.inputs.now _ _ exit_of
+    (of_outcome c.args.names.now.host.now c.args.names.now.realm.now c.args.unknown c.args.levels c.args.inputs.now _ (rw (← c.deref.ensures) at c.in-Ok.ensures.book)) _ _ _ _ (c.run_replies.ensures.no_memory e)
 
 pub returns-clause-endless : goal.returns-clause-endless
 returns-clause-endless g c = λ e.
-    lines_answered (replies c.args.unknown c.args.levels) c.args.inputs.now _ _ exit_of
-    (of_outcome c.args.unknown c.args.levels c.args.inputs.now _ (rw (← c.deref.ensures) at c.in-Ok.ensures.book)) _ _ _ _ (c.run_replies.ensures.endless e)
+    lines_answered (replies c.args.names.now.host.now c.args.names.now.realm.now c.args.unknown c.args.levels) c.args.inputs.now _ _ exit_of
+    (of_outcome c.args.names.now.host.now c.args.names.now.realm.now c.args.unknown c.args.levels c.args.inputs.now _ (rw (← c.deref.ensures) at c.in-Ok.ensures.book)) _ _ _ _ (c.run_replies.ensures.endless e)
 
 pub returns-clause-answered : goal.returns-clause-answered
 returns-clause-answered g c =
     IfOk-weaker c.run_replies.result _ _
-    (λ captured h. all_answered (replies c.args.unknown c.args.levels) c.args.inputs.now _ _ exit_of
-    (of_outcome c.args.unknown c.args.levels c.args.inputs.now _ (rw (← c.deref.ensures) at c.in-Ok.ensures.book)) _ _ _ _ captured.reported.exit
+    (λ captured h. all_answered (replies c.args.names.now.host.now c.args.names.now.realm.now c.args.unknown c.args.levels) c.args.inputs.now _ _ exit_of
+    (of_outcome c.args.names.now.host.now c.args.names.now.realm.now c.args.unknown c.args.levels c.args.inputs.now _ (rw (← c.deref.ensures) at c.in-Ok.ensures.book)) _ _ _ _ captured.reported.exit
     (first_occurs c.args.inputs.now _ (rw (← c.deref.ensures) at c.in-Ok.ensures.book)) h) c.run_replies.ensures.recorded
 
 pub returns-clause-all : goal.returns-clause-all
@@ -68,5 +68,5 @@ returns-in-Err-clause-no_summary g c = IfOk-weaker c.refuse.result _ _ (λ captu
 pub returns-clause-summary : goal.returns-clause-summary
 returns-clause-summary g c =
     IfOk-weaker c.run_replies.result _ _
-    (λ captured made some. replies_summed c.args.unknown c.args.levels c.args.inputs.now _ (rw (← c.deref.ensures) at c.in-Ok.ensures.book) string_bytes _ _ _ _ captured.summary made)
+    (λ captured made some. replies_summed c.args.names.now.host.now c.args.names.now.realm.now c.args.unknown c.args.levels c.args.inputs.now _ (rw (← c.deref.ensures) at c.in-Ok.ensures.book) string_bytes _ _ _ _ captured.summary made)
     c.run_replies.ensures.summary

@@ -4,16 +4,13 @@ use Rattle.dia_breaking.proofs.FoundExits.{groups_of, inner_found}
 use Rattle.dia_breaking.proofs.Outlooks.{rules_of_group, has_level_lines}
 use Rattle.dia_breaking.proofs.exits.inner_of.Goals as goal
 
-pub level_lines-requires-clause-shortest : goal.level_lines-requires-clause-shortest
-level_lines-requires-clause-shortest g c = c.requires _ _
-
 pub returns-clause-levels : goal.returns-clause-levels
 returns-clause-levels g c =
     let da = sender_in c.args.lengths.now in
     let db = g.B.Book.meaning c.args.b.now in
     has_level_lines da db (costs_of c.args.lengths.now) c.args.key c.in-Some.a_def c.in-Some-group_of.b_def
-    c.in_ok-level_lines.field-0.items (rules_of_group da c.args.key c.in-Some.a_def c.group_of.result c.in-Some.is c.group_of.ensures.definition)
-    (rules_of_group db c.args.key c.in-Some-group_of.b_def c.group_of-2.result c.in-Some-group_of.is c.group_of-2.ensures.definition) c.in_ok-level_lines.ensures.exact
+    c.in_ok-lines_between.field-0.items (rules_of_group da c.args.key c.in-Some.a_def c.group_of.result c.in-Some.is c.group_of.ensures.definition)
+    (rules_of_group db c.args.key c.in-Some-group_of.b_def c.group_of-2.result c.in-Some-group_of.is c.group_of-2.ensures.definition) c.in_ok-lines_between.ensures
 
 pub returns-clause-exact : goal.returns-clause-exact
 returns-clause-exact g c =

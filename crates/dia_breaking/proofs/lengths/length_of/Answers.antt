@@ -16,6 +16,12 @@ returns-in-Known g c =
     ap (λ (who : Sends). unknown_length who key) (sym c.in-Known.is)
     ∙ ap (λ (o : Option ℕ). option_map_or (length_of_entry c.args.entries.now) o (unknown_length c.args.sends key)) (sym c.in-None.is ∙ c.avp.ensures)
 
+pub returns-in-Filled : goal.returns-in-Filled
+returns-in-Filled g c =
+    let key = c.args.key in
+    ap (λ (who : Sends). unknown_length who key) (sym c.in-Filled.is)
+    ∙ ap (λ (o : Option ℕ). option_map_or (length_of_entry c.args.entries.now) o (unknown_length c.args.sends key)) (sym c.in-None.is ∙ c.avp.ensures)
+
 pub returns-in-Listed : goal.returns-in-Listed
 returns-in-Listed g c =
     let key = c.args.key in

@@ -1,8 +1,8 @@
 use Rattle.std.proofs.Common.{List, ℕ, ◌≡◌, ◌<◌, length, subst, sym, arith}
 use Rattle.std.specs.Prelude.{string_bytes}
 use Rattle.std.specs.Str.{IsUtf8}
-use Rattle.dia_tables.specs.declared.TableFault.TheVariants as table
-use Rattle.dia_tables.specs.TableText.{IsTable, max_table, plain_table}
+use Rattle.dia_compat.specs.declared.TableFault.TheVariants as table
+use Rattle.dia_compat.specs.TableText.{IsTable, max_table, plain_table}
 use Rattle.dia_c_calls.specs.Comparisons.{IsCompared}
 use Rattle.dia_c_calls.proofs.NoTables.{has_fault}
 use Rattle.dia_c_calls.proofs.Recorded.{if_ok}

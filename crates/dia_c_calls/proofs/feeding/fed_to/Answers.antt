@@ -18,7 +18,7 @@ returns-clause-no_memory g c is d u most bytes paused same = c.feed-answer.ensur
 pub returns-clause-never : goal.returns-clause-never
 returns-clause-never g c d u most bytes paused same is =
     let occurs = c.resume-stream.ensures.occurs d u most bytes paused same in
-    not_spent d u most bytes _ occurs.taken.read (c.feed-answer.ensures.spent.0 is)
+    not_spent d u most bytes _ _ occurs.taken.read (c.feed-answer.ensures.spent.0 is)
 
 pub returns-clause-fits : goal.returns-clause-fits
 returns-clause-fits g c = ∥∥₁_map c.pause.ensures.fits (λ x. subst (λ d. IsPausedFor d c.pause.result) (c.feed-answer.ensures.dictionary ∙ c.resume-stream.ensures.dictionary) x)

@@ -7,7 +7,7 @@ use Rattle.dia_c_calls.proofs.feeding.levels_of.Goals as goal
 pub returns-clause-levels : goal.returns-clause-levels
 returns-clause-levels g c d u most bytes paused same =
     let occurs = c.resume-stream.ensures.occurs d u most bytes paused same in
-    c.levels-levels.ensures.count (not_spent d u most bytes _ occurs.taken.read) d u most bytes occurs
+    c.levels-levels.ensures.count (not_spent d u most bytes _ _ occurs.taken.read) d u most bytes occurs
 
 pub returns-clause-kept : goal.returns-clause-kept
 returns-clause-kept g c d u most bytes paused same = c.pause.ensures.paused d u most bytes (c.resume-stream.ensures.occurs d u most bytes paused same)

@@ -15,8 +15,8 @@ use Rattle.dia_check.proofs.PartsOfPieces.{lies_whole}
 use Rattle.dia_check.proofs.UnderWay.{place}
 use Rattle.dia_check.proofs.checking.check_body.Goals as goal
 
-pub reopen_body-requires : goal.reopen_body-requires
-reopen_body-requires g c =
+pub open_body-requires : goal.open_body-requires
+open_body-requires g c =
     let d = g.B.Book.meaning c.args.basis.now.book.now in
     ∥∥₁_elim c.requires le_prop (λ x. let (good, is, sized, few) = x in
     subst (λ (n : ℕ). n < length (definitions d)) is (slice_get_within (definitions d) good.c good.command good.is_command))
@@ -38,13 +38,13 @@ read_avps-requires g c =
       c.args.bytes.now,
       good,
       few,
-      opens_body d (g.met.B.Book.sound c.args.basis.now.book.now) c.args.basis.now.unknown c.args.basis.now.levels c.args.bytes.now c.reopen_body.new.open_levels c.args.def (length c.args.bytes.now) good is refl
-          c.in_ok-reopen_body.ensures,
+      opens_body d (g.met.B.Book.sound c.args.basis.now.book.now) c.args.basis.now.unknown c.args.basis.now.levels c.args.bytes.now c.open_body.new.open_levels c.args.def (length c.args.bytes.now) good is refl
+          c.in_ok-open_body.ensures,
       lies_after c.args.bytes.now sized.long,
     ))
 
-pub returns-in_err-reopen_body : goal.returns-in_err-reopen_body
-returns-in_err-reopen_body g c good is sized =
+pub returns-in_err-open_body : goal.returns-in_err-open_body
+returns-in_err-open_body g c good is sized =
     let p = err_from_is_err_and c.from_residual.result c.from_residual.ensures.1 in
     rw (p.1, p.2) tt
 
@@ -52,7 +52,7 @@ pub returns-in_err-read_avps : goal.returns-in_err-read_avps
 returns-in_err-read_avps g c good is sized =
     let d = g.B.Book.meaning c.args.basis.now.book.now in
     let bytes = c.args.bytes.now in
-    let way = opens_body d (g.met.B.Book.sound c.args.basis.now.book.now) c.args.basis.now.unknown c.args.basis.now.levels bytes c.reopen_body.new.open_levels c.args.def (length bytes) good is refl c.in_ok-reopen_body.ensures in
+    let way = opens_body d (g.met.B.Book.sound c.args.basis.now.book.now) c.args.basis.now.unknown c.args.basis.now.levels bytes c.open_body.new.open_levels c.args.def (length bytes) good is refl c.in_ok-open_body.ensures in
     let p = err_from_is_err_and c.from_residual-in_err-read_avps.result c.from_residual-in_err-read_avps.ensures.1 in
     rw (p.1, p.2)
     (found_answers d (g.met.B.Book.sound c.args.basis.now.book.now) c.args.basis.now.unknown c.args.basis.now.levels bytes sized good c.in_err-read_avps.field-0.0
@@ -62,7 +62,7 @@ pub unreachable-requires : goal.unreachable-requires
 unreachable-requires g c = ∥∥₁_elim c.requires (hlevel props) (λ x. let (good, is, sized, few) = x in
     let d = g.B.Book.meaning c.args.basis.now.book.now in
     let bytes = c.args.bytes.now in
-    let way = opens_body d (g.met.B.Book.sound c.args.basis.now.book.now) c.args.basis.now.unknown c.args.basis.now.levels bytes c.reopen_body.new.open_levels c.args.def (length bytes) good is refl c.in_ok-reopen_body.ensures in
+    let way = opens_body d (g.met.B.Book.sound c.args.basis.now.book.now) c.args.basis.now.unknown c.args.basis.now.levels bytes c.open_body.new.open_levels c.args.def (length bytes) good is refl c.in_ok-open_body.ensures in
     let now = rw c.in-Some.is at (c.in_ok-read_avps.ensures.next bytes good way (lies_after bytes sized.long)) in
     let end = (place d (g.met.B.Book.sound c.args.basis.now.book.now) c.args.basis.now.unknown c.args.basis.now.levels bytes good c.read_avps.new.open_levels c.in-Some.field-0 now).1 in
     let following : 20 + length (take (length bytes - 20) (drop 20 bytes)) < c.read_avps.new.open_levels.innermost.end = rw c.in-Some.is at c.in_ok-read_avps.ensures.goes_on in
@@ -74,6 +74,6 @@ pub returns : goal.returns
 returns g c good is sized =
     let d = g.B.Book.meaning c.args.basis.now.book.now in
     let bytes = c.args.bytes.now in
-    let way = opens_body d (g.met.B.Book.sound c.args.basis.now.book.now) c.args.basis.now.unknown c.args.basis.now.levels bytes c.reopen_body.new.open_levels c.args.def (length bytes) good is refl c.in_ok-reopen_body.ensures in
+    let way = opens_body d (g.met.B.Book.sound c.args.basis.now.book.now) c.args.basis.now.unknown c.args.basis.now.levels bytes c.open_body.new.open_levels c.args.def (length bytes) good is refl c.in_ok-open_body.ensures in
     let (walk, end) = rw c.in-None.is at (c.in_ok-read_avps.ensures.next bytes good way (lies_after bytes sized.long)) in
     subst (IsValidOf d c.args.basis.now.unknown c.args.basis.now.levels bytes) is (walk_answers d (g.met.B.Book.sound c.args.basis.now.book.now) c.args.basis.now.unknown c.args.basis.now.levels bytes sized good None walk)

@@ -8,8 +8,8 @@ use Rattle.dia_check.proofs.header.whole_header.Goals as goal
 begins : (bytes : List ℕ) (n : ℕ) → BeginsMessage bytes n → HasLength bytes n
 begins bytes n (h, head, sound) = has_length h n bytes head sound
 
-pub returns-in-Ok-clause-answer : goal.returns-in-Ok-clause-answer
-returns-in-Ok-clause-answer c d u most =
+pub returns-in-Ok-clause-whole : goal.returns-in-Ok-clause-whole
+returns-in-Ok-clause-whole c =
     (c.in-Ok.ensures.head, has_length c.in-Ok.header (length c.args.bytes.now) c.args.bytes.now c.in-Ok.ensures.head c.in-Ok.ensures.long, omega (arith, c.in-Ok.ensures.bounded))
 
 pub returns-in-Err-Truncated-clause-answer : goal.returns-in-Err-Truncated-clause-answer

@@ -12,7 +12,7 @@ use Rattle.dia_cli.proofs.arguments.parsed.Goals as goal
 pub returns-in-Ok-clause-words : goal.returns-in-Ok-clause-words
 returns-in-Ok-clause-words g c =
     let program : IsProgram (line_shape c.as_slice.result c.as_slice-2.result) =
-    record { policies = c.as_slice.result; senders = c.as_slice-2.result; two = search rules; three = search rules; shape = refl } in
+    record { policies = c.as_slice.result; senders = c.as_slice-2.result; two = search rules; four = search rules; shape = refl } in
     let rows : map command_of c.as_slice-3.result.now ≡ command_rows = ap (map command_of) c.as_slice-3.ensures ∙ c.command_rows-rows.ensures in
     let line : app_of c.in-Ok.line ≡ line_shape c.as_slice.result c.as_slice-2.result =
     c.in-Ok.ensures ∙ ap (with_commands c.as_slice.result c.as_slice-2.result program_app) rows in
@@ -21,7 +21,7 @@ returns-in-Ok-clause-words g c =
 pub returns-in-Ok-clause-refused : goal.returns-in-Ok-clause-refused
 returns-in-Ok-clause-refused g c =
     let program : IsProgram (line_shape c.as_slice.result c.as_slice-2.result) =
-    record { policies = c.as_slice.result; senders = c.as_slice-2.result; two = search rules; three = search rules; shape = refl } in
+    record { policies = c.as_slice.result; senders = c.as_slice-2.result; two = search rules; four = search rules; shape = refl } in
     let rows : map command_of c.as_slice-3.result.now ≡ command_rows = ap (map command_of) c.as_slice-3.ensures ∙ c.command_rows-rows.ensures in
     let line : app_of c.in-Ok.line ≡ line_shape c.as_slice.result c.as_slice-2.result =
     c.in-Ok.ensures ∙ ap (with_commands c.as_slice.result c.as_slice-2.result program_app) rows in
@@ -30,6 +30,6 @@ returns-in-Ok-clause-refused g c =
 pub returns-in-Err-clause-refused : goal.returns-in-Err-clause-refused
 returns-in-Err-clause-refused g c =
     let program : IsProgram (line_shape c.as_slice.result c.as_slice-2.result) =
-    record { policies = c.as_slice.result; senders = c.as_slice-2.result; two = search rules; three = search rules; shape = refl } in
+    record { policies = c.as_slice.result; senders = c.as_slice-2.result; two = search rules; four = search rules; shape = refl } in
     let read : Result Request Ending = Err c.from.result in
     none_is_refused (line_shape c.as_slice.result c.as_slice-2.result) (map g.S.AsStr.text c.args.words.now) read program c.from.ensures

@@ -1,8 +1,8 @@
 use Rattle.std.proofs.Common.{sym, subst}
 use Rattle.std.specs.Prelude.{IfOk, string_bytes}
-use Rattle.dia_inclusion.specs.declared.Answer.{Answer}
-use Rattle.dia_inclusion.specs.Closed.{IsTableAnswer}
-use Rattle.dia_tables.specs.TableText.{plain_table}
+use Rattle.dia_compat.specs.declared.Answer.{Answer}
+use Rattle.dia_compat.specs.Closed.{IsTableAnswer}
+use Rattle.dia_compat.specs.TableText.{plain_table}
 use Rattle.dia_compared_json.specs.Compared.{IsAnswerJson}
 use Rattle.dia_compared_json.proofs.Pairs.{fails_of_pair, listed_within, not_none, yes_recorded}
 use Rattle.dia_compared_json.proofs.comparing.recorded_of.Goals as goal

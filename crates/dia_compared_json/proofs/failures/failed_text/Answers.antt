@@ -1,5 +1,5 @@
 use Rattle.std.proofs.lemmas.Result.{IfOk-weaker}
-use Rattle.dia_tables.specs.TableText.{plain_pair}
+use Rattle.dia_compat.specs.TableText.{plain_pair}
 use Rattle.dia_compared_json.proofs.Texts.{failure_recorded}
 use Rattle.dia_compared_json.proofs.failures.failed_text.Goals as goal
 

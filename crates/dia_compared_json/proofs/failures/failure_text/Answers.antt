@@ -1,6 +1,6 @@
 use Rattle.std.proofs.Common.{◌∙◌, ap}
 use Rattle.std.proofs.lemmas.Result.{IfOk-weaker}
-use Rattle.dia_tables.specs.TableText.{plain_pair}
+use Rattle.dia_compat.specs.TableText.{plain_pair}
 use Rattle.dia_compared_json.specs.Failures.{fails_of}
 use Rattle.dia_compared_json.specs.Parts.{side_of}
 use Rattle.dia_compared_json.proofs.Pairs.{fails_recorded}

@@ -3,8 +3,8 @@ use Rattle.std.specs.Prelude.{slice_get}
 use Rattle.std.specs.Str.{bytes_eq}
 use Rattle.dia_book.specs.Dictionary.{PlainDefinition, plain_definition}
 use Rattle.dia_valid.proofs.SelectedCommands.{command_at}
-use Rattle.dia_inclusion.proofs.FilteredMembers.{none_more_at}
-use Rattle.dia_inclusion.proofs.PlacesOfCommands.{within}
+use Rattle.dia_compat.proofs.FilteredMembers.{none_more_at}
+use Rattle.dia_compat.proofs.PlacesOfCommands.{within}
 use Rattle.dia_compared_json.proofs.Names.{command_found, none_named_at}
 use Rattle.dia_compared_json.proofs.sides.command_named.Goals as goal
 

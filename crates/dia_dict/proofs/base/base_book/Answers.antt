@@ -13,5 +13,5 @@ returns-in-Ok c = record {
 
 pub unreachable-requires : goal.unreachable-requires
 unreachable-requires c =
-    none_recorded (plain_source c.in_ok-source.field-0) c.in-Err-Occurs.field-0 c.in-Err-Occurs.field-0-0 c.in-Err-Occurs.field-0-1 c.in-Err-Occurs.field-0-2
-    (ap first_wrong c.in_ok-source.ensures ∙ first_wrong-base_source) c.in-Err-Occurs.field-0-is c.in-Err-Occurs.ensures.err
+    none_recorded (plain_source c.in_ok-source.field-0) c.in-Err-Stands.field-0 c.in-Err-Stands.field-0-0 c.in-Err-Stands.field-0-1 c.in-Err-Stands.field-0-2
+    (ap first_wrong c.in_ok-source.ensures ∙ first_wrong-base_source) c.in-Err-Stands.field-0-is c.in-Err-Stands.ensures.err

@@ -1,8 +1,6 @@
 //! What is wrong with declarations and headers.
-ghost use Rattle.std.specs.Prelude.{◌≡◌, ◌++◌, ◌∷◌, [], OnOk, IfOk, IsTrue, map, filter, not};
+ghost use Rattle.std.specs.Prelude.{◌≡◌, ◌++◌, ◌∷◌, [], OnOk, IfOk, map, filter};
 ghost use Rattle.std.specs.Prelude.{if◌then◌else◌};
-ghost use Rattle.std.specs.List.{list_all};
-ghost use Rattle.dia_ccf.specs.Names.{is_group};
 ghost use Rattle.dia_ccf.specs.Plain.{plain_source, plain_decl};
 ghost use Rattle.dia_dict.specs.declared.fault.DictKind.TheVariants.{DuplicateCommand};
 ghost use Rattle.dia_dict.specs.Resolution.{wrong, wrong_entries, no_groups, lacks_group};
@@ -181,7 +179,6 @@ fn selecting<'a>(
     alloc: Global,
     commands: &[PlacedDef<'a>],
 ) -> Result<Vec<Keyed<'a, Selector>>, AllocError>
-    requires { IsTrue (list_all (λ d. not (is_group d.item.now.head)) commands.now) }
     ensures { IfOk result (λ selecting. map keyed_selector selecting.items
         ≡ map recorded_selector (map placed_def commands.now)) }
 {

@@ -1,5 +1,5 @@
 use Rattle.std.proofs.Common.{arith, refl}
-use Rattle.dia_inclusion.proofs.PlacesOfCommands.{within}
+use Rattle.dia_compat.proofs.PlacesOfCommands.{within}
 use Rattle.dia_explain_answers.proofs.books.find_command.Goals as goal
 
 pub command_at-requires : goal.command_at-requires

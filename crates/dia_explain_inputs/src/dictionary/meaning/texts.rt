@@ -33,8 +33,7 @@ pub fn text_of(parts: &Parts<'_>, fault: &RecordedFault<'_>) -> &'static str {
             "$name$ ($place$) has a rule for $slot$, which is neither declared nor a group$more$\n\
              declare it, as in %avp $slot$ CODE FORMAT RULE, or define it as a group; dictionaries/ has those of many RFCs and \
              of 3GPP",
-        DictKind::RepeatedSlot => "$name$ ($place$) has two rules for $slot$, first\n\
-             make it one rule with a qualifier, as 1*2 { $slot$ }",
+        DictKind::RepeatedSlot => { text_of_repeated(parts.rule(fault.other), parts.rule(part)) }
         DictKind::MinOverMax => text_of_counts(parts.rule(part)),
         DictKind::RequiredMin =>
             "$name$ ($place$) requires $slot$ by { $slot$ }, with a least count of 0\n\
@@ -66,6 +65,23 @@ fn text_of_head(head: Option<Head>) -> &'static str {
         _ => "$name$ is for errors, as is $first$\n\
              one definition with code, ERR serves the errors of all commands: drop one",
     }
+}
+
+/// Of a rule for what an earlier rule is for.
+fn text_of_repeated(first: Option<&Rule>, second: Option<&Rule>) -> &'static str {
+    match (first, second) {
+        (_, Some(Rule { name: None, .. })) => "$name$ ($place$) has two rules for $slot$, first\n\
+             drop one: the count of the wildcard is that of all AVPs that no rule lists",
+        (Some(first), Some(second)) if is_optional(first) && is_optional(second) =>
+            "$name$ ($place$) has two rules for $slot$, first\n\
+             make it one rule with a qualifier, as *2 [ $slot$ ]",
+        _ => "$name$ ($place$) has two rules for $slot$, first\n\
+             make it one rule with a qualifier, as 1*2 { $slot$ }",
+    }
+}
+
+fn is_optional(rule: &Rule) -> bool {
+    matches!(rule.kind, RuleKind::Optional)
 }
 
 /// Of a rule whose least count is above its greatest.

@@ -1,6 +1,6 @@
 use Rattle.std.proofs.Common.{◌≡◌, sym, ap, ap₂, ◌∙◌}
-use Rattle.dia_tables.specs.Words.{PlainWords, limit_part, plain_words, word_of}
-use Rattle.dia_tables.specs.declared.PairPart.{PairPart}
+use Rattle.dia_compat.specs.Words.{PlainWords, limit_part, plain_words, word_of}
+use Rattle.dia_compat.specs.declared.PairPart.{PairPart}
 use Rattle.dia_explain_places.specs.Places.{line_at}
 use Rattle.dia_explain_places.proofs.TableWords.{IsWordAt, words_are, place_is, on_line}
 use Rattle.dia_explain_places.proofs.tables.limit_word.Goals as goal

@@ -1,8 +1,8 @@
 use Rattle.std.proofs.Common.{◌≡◌, sym, ap, ap₂, ◌∙◌}
 use Rattle.std.specs.Prelude.{unwrap_or}
-use Rattle.dia_tables.specs.Words.{PlainWords, plain_words, word_of, wrong_part}
-use Rattle.dia_tables.specs.declared.PairPart.TheVariants.{After}
-use Rattle.dia_tables.specs.declared.PairPart.{PairPart}
+use Rattle.dia_compat.specs.Words.{PlainWords, plain_words, word_of, wrong_part}
+use Rattle.dia_compat.specs.declared.PairPart.TheVariants.{After}
+use Rattle.dia_compat.specs.declared.PairPart.{PairPart}
 use Rattle.dia_explain_places.specs.Places.{line_at}
 use Rattle.dia_explain_places.proofs.TableWords.{IsWordAt, words_are, place_is, on_line}
 use Rattle.dia_explain_places.proofs.tables.syntax_word.Goals as goal

@@ -1,5 +1,5 @@
 use Rattle.std.proofs.lemmas.Result.{on_ok_weaker}
-use Rattle.dia_tables.specs.TableText.{plain_pair}
+use Rattle.dia_compat.specs.TableText.{plain_pair}
 use Rattle.dia_json.proofs.Pairs.{pair_recorded}
 use Rattle.dia_json.proofs.proposing.push_pair.Goals as goal
 

@@ -1,5 +1,5 @@
 use Rattle.std.proofs.Common.{◌≡◌, ◌++◌, map, string_bytes, take, flat_map}
-use Rattle.dia_tables.specs.TableText.{plain_pair}
+use Rattle.dia_compat.specs.TableText.{plain_pair}
 use Rattle.dia_json.specs.Whole.{pair_json}
 use Rattle.dia_json.proofs.proposing.push_pairs.Given as goal
 

@@ -1,6 +1,11 @@
+use Rattle.std.proofs.Common.{◌≡◌}
+use Rattle.dia_terms.specs.declared.Sends.TheVariants.{Filled, Listed}
 use Rattle.dia_lint.specs.Ways.{side_of}
-use Rattle.dia_lint.proofs.WayTruths.{with_commands}
+use Rattle.dia_lint.proofs.ExactLists.{with_commands}
 use Rattle.dia_lint.proofs.unreached.push_unreached.Goals as goal
+
+pub reached_by-requires : goal.reached_by-requires
+reached_by-requires g c = λ e. absurd (let bad : Listed ≡ Filled = e in cc)
 
 pub returns : goal.returns
 returns g c =

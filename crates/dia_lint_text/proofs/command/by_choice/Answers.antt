@@ -1,8 +1,13 @@
+use Rattle.std.proofs.Common.{sym, ◌∙◌}
 use Rattle.dia_lint_text.specs.Asking.{question}
-use Rattle.dia_lint_text.proofs.Outcomes.{bad_dictionary}
+use Rattle.dia_lint_text.proofs.Outcomes.{any_asked, unasked}
 use Rattle.dia_lint_text.proofs.command.by_choice.Goals as goal
 
-pub returns-in-Err-Bad : goal.returns-in-Err-Bad
-returns-in-Err-Bad c =
-    bad_dictionary (question c.args.asked.now) c.args.inputs.now _ _ c.requires.known (rw c.in-Err-Bad.field-0-is at c.in-Err-Bad.ensures.recorded)
-    c.no_dictionary.ensures.text c.no_dictionary.ensures.exit
+pub by_rules-requires-clause-some : goal.by_rules-requires-clause-some
+by_rules-requires-clause-some c =
+    sym (any_asked (question c.args.asked.now) c.args.choice.now.chosen.items c.has_any.result c.requires.chosen c.has_any.ensures) ∙ c.if-has_any.true
+
+pub returns-else-has_any : goal.returns-else-has_any
+returns-else-has_any c =
+    unasked (question c.args.asked.now) c.args.inputs.now c.args.choice.now.chosen.items c.has_any.result c.nothing_asked.result c.requires.chosen c.requires.known
+    c.has_any.ensures c.if-has_any.false c.nothing_asked.ensures.text c.nothing_asked.ensures.exit

@@ -7,4 +7,4 @@ three out a b d x y z e f g = g ∙ ap (λ (l : List ℕ). l ++ d) (f ∙ ap (λ
 pub returns : goal.returns
 returns c =
     three _ _ _ _ _ _ _ c.in_ok-extend_from_slice.ensures.items c.in_ok-extend_from_slice-2.ensures.items c.in_ok-extend_from_slice-3.ensures.items
-    ∙ (λ i. c.args.out.now.items ++ (c.to_be_bytes.ensures i ++ (64 ∷ 0 ∷ 0 ∷ 12 ∷ c.to_be_bytes-2.ensures i)))
+    ∙ (λ i. c.args.out.now.items ++ (c.four_bytes.ensures i ++ (64 ∷ 0 ∷ 0 ∷ 12 ∷ c.four_bytes-2.ensures i)))

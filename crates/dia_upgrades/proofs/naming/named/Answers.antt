@@ -4,10 +4,10 @@ use Rattle.std.specs.List.{filter_map}
 use Rattle.std.specs.Prelude.{All}
 use Rattle.std.proofs.lemmas.List.{take_all}
 use Rattle.dia_book.specs.Dictionary.{PlainDefinition}
-use Rattle.dia_inclusion.specs.Closed.{NamesCommand}
-use Rattle.dia_inclusion.specs.PairTests.{command_named}
-use Rattle.dia_inclusion.proofs.SetsOfNames.{place_by_name}
-use Rattle.dia_inclusion.proofs.NamedCommands.{item_at, no_command}
+use Rattle.dia_compat.specs.Closed.{NamesCommand}
+use Rattle.dia_compat.specs.PairTests.{command_named}
+use Rattle.dia_compat.proofs.SetsOfNames.{place_by_name}
+use Rattle.dia_compat.proofs.NamedCommands.{item_at, no_command}
 use Rattle.dia_upgrades.proofs.AskedCommands.{IsNamed, all_asked, all_known, found_more, known_before, named_asked, named_more, no_name_known, no_names}
 use Rattle.dia_upgrades.proofs.naming.named.Goals as goal
 

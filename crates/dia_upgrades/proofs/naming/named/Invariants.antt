@@ -2,7 +2,7 @@ use Rattle.std.proofs.Common.{◌≡◌, map, take, string_bytes, String}
 use Rattle.std.specs.Global.{Global}
 use Rattle.std.specs.List.{filter_map}
 use Rattle.std.specs.Prelude.{All}
-use Rattle.dia_inclusion.specs.PairTests.{command_named}
+use Rattle.dia_compat.specs.PairTests.{command_named}
 use Rattle.dia_upgrades.proofs.AskedCommands.{IsNamed}
 use Rattle.dia_upgrades.proofs.naming.named.Given as goal
 

@@ -2,8 +2,8 @@ use Rattle.std.proofs.Common.{arith, refl, Some, ℕ, List, map, ap, sym, ◌∙
 use Rattle.std.proofs.lemmas.List.{take_all, length-map}
 use Rattle.dia_book.specs.Dictionary.{PlainDefinition, plain_definition}
 use Rattle.dia_book.proofs.Members.{into_map}
-use Rattle.dia_inclusion.proofs.PlacesOfCommands.{within}
-use Rattle.dia_inclusion.proofs.SetsOfNames.{one_more, distinct_names}
+use Rattle.dia_compat.proofs.PlacesOfCommands.{within}
+use Rattle.dia_compat.proofs.SetsOfNames.{one_more, distinct_names}
 use Rattle.dia_valid.proofs.SelectedCommands.{command_at}
 use Rattle.dia_upgrades.proofs.naming.names_of_commands.Goals as goal
 

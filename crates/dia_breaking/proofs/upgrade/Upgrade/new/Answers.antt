@@ -29,6 +29,7 @@ invariant_of-result g c =
         have_lines = c.in_ok-outlooks.ensures.levels;
         are_own = subst (λ (recorded : List Own). AreOwnBreaks s k.listed recorded c.in_ok-own.own.items) (c.deref-4.ensures.value ∙ ap (λ (t : Recording). t.own.items) c.deref-3.ensures) c.in_ok-own.ensures;
       } ∣₁;
+      named = c.in_ok-names.ensures;
       first_apps = c.in_ok-apps.ensures.first;
       second_apps = c.in_ok-apps.ensures.second;
       others = c.in_ok-new_apps.ensures;

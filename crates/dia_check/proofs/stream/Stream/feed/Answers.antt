@@ -32,7 +32,7 @@ returns-then-self-lt-HEADER_LENGTH-clause-taken g c d u most bytes occurs =
     let mid = c.take_header.new.self in
     let now = c.in_ok-head.ensures.taken d u most bytes occurs in
     let all = c.in_ok-head.ensures.all c.if-self-lt-HEADER_LENGTH.true in (
-      takes d u most mid.taken mid.wanted mid.stage bytes c.args.piece.now c.in_ok-head.head false now.taken (omega (arith, all)) (inl all) (
+      takes d u most mid.taken mid.wanted mid.body mid.stage bytes c.args.piece.now c.in_ok-head.head false now.taken (omega (arith, all)) (inl all) (
         λ is. absurd cc,
         λ e. absurd (let least = least_wanted (bytes ++ take c.in_ok-head.head c.args.piece.now) in let w =
             now.taken.wants in let less = c.if-self-lt-HEADER_LENGTH.true in omega (arith, least, w, less, e)),
@@ -92,7 +92,7 @@ returns-clause-taken g c d u most bytes occurs =
     let size = length-append (bytes ++ take head piece) (take body slice) in let same = ap length parts in
     let stops = ⊎_elim (λ (e : body ≡ length slice). inl (omega (arith, e, k, l, a)))
     (λ (e : new.taken ≡ new.wanted). inr (omega (arith, before, count, long, size, same), e)) c.in_ok-body.ensures.all in
-    (takes d u most new.taken new.wanted new.stage bytes piece (head + body) _ now.taken (omega (arith, a, b, k, l)) stops (eqb-true new.taken new.wanted, eq-eqb new.taken new.wanted), now)
+    (takes d u most new.taken new.wanted new.body new.stage bytes piece (head + body) _ now.taken (omega (arith, a, b, k, l)) stops (eqb-true new.taken new.wanted, eq-eqb new.taken new.wanted), now)
 
 pub returns-clause-goes_on : goal.returns-clause-goes_on
 returns-clause-goes_on g c = c.in_ok-body.ensures.goes_on

@@ -26,11 +26,11 @@ invariant_of-self g c =
     let after = c.take_from.new.self in
     record {
       holds = ∥∥₁_map s.holds (λ x.
-          let (bytes, h) = subst (λ (t : Stage). IsStage d s.basis.unknown s.basis.levels s.taken s.wanted t) c.in-Header.is x in
+          let (bytes, h) = subst (λ (t : Stage). IsStage d s.basis.unknown s.basis.levels s.taken s.wanted s.body t) c.in-Header.is x in
           let k = length (front_bytes after) - length (front_bytes front) in
-          is_stage d s.basis.unknown s.basis.levels c.len-self.result c.read_front-wanted.result.0 c.read_front-wanted.result.1 (bytes ++ take k c.args.piece.now) (λ live.
-          header_now front after c.args.piece.now c.take_from.ensures (front_size front front.within) d s.basis.unknown s.basis.levels s.taken s.wanted bytes h
-          k c.len-self.result c.read_front-wanted.result.0 c.read_front-wanted.result.1 refl c.len-self.ensures c.read_front-wanted.ensures.wants
+          is_stage d s.basis.unknown s.basis.levels c.len-self.result c.read_front-wanted.result.0 c.read_front-wanted.new.body c.read_front-wanted.result.1 (bytes ++ take k c.args.piece.now) (λ live.
+          header_now front after c.args.piece.now c.take_from.ensures (front_size front front.within) d s.basis.unknown s.basis.levels s.taken s.wanted s.body bytes h
+          k c.len-self.result c.read_front-wanted.result.0 c.read_front-wanted.new.body c.read_front-wanted.result.1 refl c.len-self.ensures c.read_front-wanted.ensures.wants
           (c.read_front-wanted.ensures.read s.basis.unknown s.basis.levels) live));
     }
 
@@ -45,20 +45,20 @@ returns-in_default-stage-clause-taken g c d u most bytes occurs =
     let e = g.B.Book.meaning s.basis.book.now in
     let front = c.in-Header.front in
     let after = c.take_from.new.self in
-    let there = subst (λ (t : Stage). HasTaken d u most s.taken s.wanted t bytes) c.in-Header.is occurs.taken in
-    let own = moved (λ (x : Dictionary) (y : Unknown) (z : Levels). HasTaken x y z s.taken s.wanted (Header front) bytes)
+    let there = subst (λ (t : Stage). HasTaken d u most s.taken s.wanted s.body t bytes) c.in-Header.is occurs.taken in
+    let own = moved (λ (x : Dictionary) (y : Unknown) (z : Levels). HasTaken x y z s.taken s.wanted s.body (Header front) bytes)
     d e u s.basis.unknown most s.basis.levels (sym occurs.book) (sym occurs.unknown) (sym occurs.levels) there in
     let k = c.len.result - c.len-2.result in
     let a = c.len.ensures in let b = c.len-2.ensures in
     let is_k : k ≡ length (front_bytes after) - length (front_bytes front) = omega (arith, a, b) in
-    let new = header_now front after c.args.piece.now c.take_from.ensures (front_size front front.within) e s.basis.unknown s.basis.levels s.taken s.wanted bytes own
-    k c.len-self.result c.read_front-wanted.result.0 c.read_front-wanted.result.1 is_k c.len-self.ensures c.read_front-wanted.ensures.wants (c.read_front-wanted.ensures.read s.basis.unknown s.basis.levels)
+    let new = header_now front after c.args.piece.now c.take_from.ensures (front_size front front.within) e s.basis.unknown s.basis.levels s.taken s.wanted s.body bytes own
+    k c.len-self.result c.read_front-wanted.result.0 c.read_front-wanted.new.body c.read_front-wanted.result.1 is_k c.len-self.ensures c.read_front-wanted.ensures.wants (c.read_front-wanted.ensures.read s.basis.unknown s.basis.levels)
     (live_stage c.read_front-wanted.result.1 c.in_default-stage.not-NoMemory) in
     record {
       book = occurs.book;
       unknown = occurs.unknown;
       levels = occurs.levels;
-      taken = moved (λ (x : Dictionary) (y : Unknown) (z : Levels). HasTaken x y z c.len-self.result c.read_front-wanted.result.0 c.read_front-wanted.result.1 (bytes ++ take k c.args.piece.now))
+      taken = moved (λ (x : Dictionary) (y : Unknown) (z : Levels). HasTaken x y z c.len-self.result c.read_front-wanted.result.0 c.read_front-wanted.new.body c.read_front-wanted.result.1 (bytes ++ take k c.args.piece.now))
           e d s.basis.unknown u s.basis.levels most occurs.book occurs.unknown occurs.levels new;
     }
 
@@ -77,14 +77,14 @@ returns-in-NoMemory-clause-no_memory g c d u most bytes occurs =
     let e = g.B.Book.meaning s.basis.book.now in
     let front = c.in-Header.front in
     let after = c.take_from.new.self in
-    let there = subst (λ (t : Stage). HasTaken d u most s.taken s.wanted t bytes) c.in-Header.is occurs.taken in
-    let own = moved (λ (x : Dictionary) (y : Unknown) (z : Levels). HasTaken x y z s.taken s.wanted (Header front) bytes)
+    let there = subst (λ (t : Stage). HasTaken d u most s.taken s.wanted s.body t bytes) c.in-Header.is occurs.taken in
+    let own = moved (λ (x : Dictionary) (y : Unknown) (z : Levels). HasTaken x y z s.taken s.wanted s.body (Header front) bytes)
     d e u s.basis.unknown most s.basis.levels (sym occurs.book) (sym occurs.unknown) (sym occurs.levels) there in
-    let good = memory_of (BeginsGood e (front_bytes after)) e s.basis.unknown s.basis.levels (front_bytes after) c.read_front-wanted.result.1
+    let good = memory_of (BeginsGood e (front_bytes after)) e s.basis.unknown s.basis.levels (front_bytes after) c.read_front-wanted.new.body c.read_front-wanted.result.1
     (subst IsSpentStage (sym c.in-NoMemory.is) tt) (c.read_front-wanted.ensures.read s.basis.unknown s.basis.levels) in
     moved (λ (x : Dictionary) (y : Unknown) (z : Levels). OpensLevel x z bytes (drop (length bytes) (taken_of (bytes ++ c.args.piece.now))))
     e d s.basis.unknown u s.basis.levels most occurs.book occurs.unknown occurs.levels
-    (header_opens front after c.args.piece.now c.take_from.ensures (front_size front front.within) e s.basis.unknown s.basis.levels s.taken s.wanted bytes own good)
+    (header_opens front after c.args.piece.now c.take_from.ensures (front_size front front.within) e s.basis.unknown s.basis.levels s.taken s.wanted s.body bytes own good)
 
 pub returns-in-NoMemory-clause-err : goal.returns-in-NoMemory-clause-err
 returns-in-NoMemory-clause-err g c = (refl, subst IsSpentStage (sym c.in-NoMemory.is) tt)
@@ -98,6 +98,6 @@ returns-in_default-clause-all g c less =
     let s = c.args.self.now in
     let d = g.B.Book.meaning s.basis.book.now in
     let long : 20 ≤ s.taken = ∥∥₁_elim s.holds le_prop (λ x.
-    let (bytes, h) = has_taken d s.basis.unknown s.basis.levels s.taken s.wanted s.stage c.requires x in
-    after_header d s.basis.unknown s.basis.levels s.taken s.wanted s.stage bytes c.in_default.not-Header c.requires h) in
+    let (bytes, h) = has_taken d s.basis.unknown s.basis.levels s.taken s.wanted s.body s.stage c.requires x in
+    after_header d s.basis.unknown s.basis.levels s.taken s.wanted s.body s.stage bytes c.in_default.not-Header c.requires h) in
     absurd (omega (arith, long, less))

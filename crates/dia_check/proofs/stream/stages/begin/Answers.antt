@@ -7,5 +7,5 @@ pub returns-in-Err : goal.returns-in-Err
 returns-in-Err g c u most bytes sized head is_end =
     let d = g.B.Book.meaning c.args.book.now in
     let (answer, good) = c.in-Err.ensures u most bytes sized head is_end in
-    ⊎_elim (λ x. subst (IsBegun d u most bytes) (sym x.1) (good x.0)) (λ x. subst (IsBegun d u most bytes)
+    ⊎_elim (λ x. subst (IsBegun d u most bytes c.begin_body.new.body) (sym x.1) (good x.0)) (λ x. subst (IsBegun d u most bytes c.begin_body.new.body)
     (sym x.1) (refused_whole d u most bytes 20 (length bytes) c.in-Err.refusal x.0 sized answer)) c.stopped.ensures

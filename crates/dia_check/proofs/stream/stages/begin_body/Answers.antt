@@ -32,9 +32,9 @@ go_on-requires g c =
       bytes,
       good,
       few,
-      started d (g.met.B.Book.sound c.args.book.now) Kept Any bytes good c.in_ok-open_levels.open_levels
-          (subst (λ (n : ℕ). AreOpenUnder d c.in_ok-open_levels.open_levels [] (begun good.command.rules n)) is_end
-          (c.in_ok-open_levels.ensures good.command (subst (λ (n : ℕ). slice_get (definitions d) n ≡ Some good.command) is good.is_command))),
+      started d (g.met.B.Book.sound c.args.book.now) Kept Any bytes good c.open_body.new.open_levels
+          (subst (λ (n : ℕ). AreOpenUnder d c.open_body.new.open_levels [] (begun good.command.rules n)) is_end
+          (c.in_ok-open_body.ensures good.command (subst (λ (n : ℕ). slice_get (definitions d) n ≡ Some good.command) is good.is_command))),
     ))
 
 pub returns-in_err-def : goal.returns-in_err-def
@@ -46,7 +46,7 @@ pub returns-in_err-part : goal.returns-in_err-part
 returns-in_err-part g c u most bytes long head is_end =
     let d = g.B.Book.meaning c.args.book.now in
     let (good, is) = c.in_ok-def.ensures.answer u most bytes long head in
-    let w = opens_body d (g.met.B.Book.sound c.args.book.now) u most bytes c.in_ok-open_levels.open_levels c.in_ok-def.def c.args.end good is is_end c.in_ok-open_levels.ensures in
+    let w = opens_body d (g.met.B.Book.sound c.args.book.now) u most bytes c.open_body.new.open_levels c.in_ok-def.def c.args.end good is is_end c.in_ok-open_body.ensures in
     let p = err_from_is_err_and c.from_residual-in_err-part.result c.from_residual-in_err-part.ensures.1 in
     rw (p.1, p.2) (
       found_answers d (g.met.B.Book.sound c.args.book.now) u most bytes long good c.in_err-part.field-0.0
@@ -58,19 +58,19 @@ pub returns-in-Some : goal.returns-in-Some
 returns-in-Some g c u most bytes long head is_end =
     let d = g.B.Book.meaning c.args.book.now in
     let (good, is) = c.in_ok-def.ensures.answer u most bytes long head in
-    let w = opens_body d (g.met.B.Book.sound c.args.book.now) u most bytes c.in_ok-open_levels.open_levels c.in_ok-def.def c.args.end good is is_end c.in_ok-open_levels.ensures in
+    let w = opens_body d (g.met.B.Book.sound c.args.book.now) u most bytes c.open_body.new.open_levels c.in_ok-def.def c.args.end good is is_end c.in_ok-open_body.ensures in
     (good, is, rw c.in-Some.is at (c.in_ok-part.ensures u most bytes good w))
 
-pub returns : goal.returns
-returns g c u most bytes long head is_end =
+pub returns-in-None : goal.returns-in-None
+returns-in-None g c u most bytes long head is_end =
     let d = g.B.Book.meaning c.args.book.now in
     let (good, is) = c.in_ok-def.ensures.answer u most bytes long head in
-    let w = opens_body d (g.met.B.Book.sound c.args.book.now) u most bytes c.in_ok-open_levels.open_levels c.in_ok-def.def c.args.end good is is_end c.in_ok-open_levels.ensures in
+    let w = opens_body d (g.met.B.Book.sound c.args.book.now) u most bytes c.open_body.new.open_levels c.in_ok-def.def c.args.end good is is_end c.in_ok-open_body.ensures in
     let (walk, end) = rw c.in-None.is at (c.in_ok-part.ensures u most bytes good w) in
     (end, subst (IsValidOf d u most bytes) is (walk_answers d (g.met.B.Book.sound c.args.book.now) u most bytes long good None walk))
 
-pub returns-in_err-open_levels : goal.returns-in_err-open_levels
-returns-in_err-open_levels g c u most bytes long head is_end =
+pub returns-in_err-open_body : goal.returns-in_err-open_body
+returns-in_err-open_body g c u most bytes long head is_end =
     let (good, is) = c.in_ok-def.ensures.answer u most bytes long head in
-    let p = err_from_is_err_and c.from_residual-in_err-open_levels.result c.from_residual-in_err-open_levels.ensures.1 in
+    let p = err_from_is_err_and c.from_residual-in_err-open_body.result c.from_residual-in_err-open_body.ensures.1 in
     rw (p.1, p.2) (tt, λ memory. good)

@@ -18,7 +18,7 @@ read_all-requires g c = ∥∥₁_map c.requires (λ x. let (bytes, may) = x in
 pub returns-in-Ok-true : goal.returns-in-Ok-true
 returns-in-Ok-true g c bytes may =
     reads_all (g.B.Book.meaning c.args.basis.now.book.now) (g.met.B.Book.sound c.args.basis.now.book.now) c.args.basis.now.unknown c.args.basis.now.levels bytes c.args.from c.args.piece.now c.args.body.now may
-    c.read_all.new.body.def c.in-Ok-true.ensures.def (λ all good part lies. rw c.in-Ok-true.field-0-test at (c.in-Ok-true.ensures.next all good part lies))
+    c.read_all.new.body c.in-Ok-true.ensures.def (λ all good part lies. rw c.in-Ok-true.field-0-test at (c.in-Ok-true.ensures.next all good part lies))
 
 pub returns-in-Ok-false : goal.returns-in-Ok-false
 returns-in-Ok-false g c bytes may =
@@ -28,4 +28,4 @@ returns-in-Ok-false g c bytes may =
 pub returns-in-Err : goal.returns-in-Err
 returns-in-Err g c bytes may =
     stops_reading (g.B.Book.meaning c.args.basis.now.book.now) (g.met.B.Book.sound c.args.basis.now.book.now) c.args.basis.now.unknown c.args.basis.now.levels bytes c.args.from c.args.piece.now c.args.body.now may
-    c.in-Err.refusal c.in-Err.ensures.next c.stopped.result c.stopped.ensures
+    c.in-Err.refusal c.in-Err.ensures.next c.read_all.new.body c.stopped.result c.stopped.ensures

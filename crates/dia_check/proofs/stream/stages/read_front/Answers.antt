@@ -42,7 +42,7 @@ pub returns-in-Ok-clause-read : goal.returns-in-Ok-clause-read
 returns-in-Ok-clause-read g c u most =
     let bytes = front_bytes c.args.front in
     let (head, sized, size) = whole c.args.front _ c.in-Ok.header c.in-Ok.length c.as_slice.ensures c.args.front.within c.in-Ok.ensures.head c.in-Ok.ensures.long in
-    begun_reads (g.B.Book.meaning c.args.book.now) (g.met.B.Book.sound c.args.book.now) u most bytes size c.in-Ok.length sized c.begin.result (λ more end. c.begin.ensures u most (bytes ++ more)
+    begun_reads (g.B.Book.meaning c.args.book.now) (g.met.B.Book.sound c.args.book.now) u most bytes size c.in-Ok.length sized c.begin.new.body c.begin.result (λ more end. c.begin.ensures u most (bytes ++ more)
     (subst (HasLength (bytes ++ more)) (sym end) (length_on bytes more c.in-Ok.length sized))
     (header_on bytes more c.in-Ok.header c.in-Ok.length (omega (arith, size)) head end) (sym end))
 

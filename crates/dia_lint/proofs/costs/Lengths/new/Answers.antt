@@ -17,6 +17,7 @@ returns g c =
       book = refl;
       sends = sends;
       lengths = record {
+        not_filled = c.requires;
         floors = subst (λ (s : Sends). AreFloors d c.args.sends (length_of d s least.lengths.items)) sends c.in_ok-least.ensures.floors;
         exact = c.in_ok-least.ensures.exact;
         spelled = c.in_ok-least.ensures.spelled;

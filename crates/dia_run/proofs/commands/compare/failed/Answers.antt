@@ -1,4 +1,4 @@
-use Rattle.dia_tables.specs.TableText.{plain_pair}
+use Rattle.dia_compat.specs.TableText.{plain_pair}
 use Rattle.dia_run.proofs.LinesOfPairs.{failure_recorded}
 use Rattle.dia_run.proofs.commands.compare.failed.Goals as goal
 

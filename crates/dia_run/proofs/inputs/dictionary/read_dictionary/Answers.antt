@@ -13,14 +13,14 @@ returns-in_err-source-clause-recorded c =
     let p = err_from_is_err_and c.from_residual.result c.from_residual.ensures.1 in
     rw (p.1, p.2) (recorded_of_source c.args.input.now c.args.number _ c.in_err-source.ensures.recorded)
 
-pub returns-in_ok-found-in-Err-Occurs-clause-recorded : goal.returns-in_ok-found-in-Err-Occurs-clause-recorded
-returns-in_ok-found-in-Err-Occurs-clause-recorded c =
-    let found = c.in_ok-found-in-Err-Occurs.found in
+pub returns-in_ok-found-in-Err-Stands-clause-recorded : goal.returns-in_ok-found-in-Err-Stands-clause-recorded
+returns-in_ok-found-in-Err-Stands-clause-recorded c =
+    let found = c.in_ok-found-in-Err-Stands.found in
     let is_wrong = wrong found.kind (string_bytes found.name) (string_bytes found.slot) in
-    let source = rw (← c.in_ok-found-in-Err-Occurs.ensures) at c.in_ok-source.ensures.source in
+    let source = rw (← c.in_ok-found-in-Err-Stands.ensures) at c.in_ok-source.ensures.source in
     recorded_why (IsNoDictionaryText c.args.input.now) c.args.number (wrong_text is_wrong) _
     (inr (plain_source found.source.value, is_wrong, source, found.first, refl)) c.deliver.ensures.recorded
 
-pub returns-in_ok-found-in-Err-Occurs-clause-kept : goal.returns-in_ok-found-in-Err-Occurs-clause-kept
-returns-in_ok-found-in-Err-Occurs-clause-kept c =
-    rw (c.deliver.ensures.bad, c.in_ok-found-in-Err-Occurs.ensures) c.in_ok-source.ensures.source
+pub returns-in_ok-found-in-Err-Stands-clause-kept : goal.returns-in_ok-found-in-Err-Stands-clause-kept
+returns-in_ok-found-in-Err-Stands-clause-kept c =
+    rw (c.deliver.ensures.bad, c.in_ok-found-in-Err-Stands.ensures) c.in_ok-source.ensures.source

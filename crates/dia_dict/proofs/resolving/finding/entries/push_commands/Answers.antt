@@ -1,8 +1,6 @@
 use Rattle.std.proofs.Common.{◌≡◌, ◌++◌, Bool, true, false, List, [], map, refl, sym, ap, ◌∙◌, subst, OnOk}
 use Rattle.std.specs.Prelude.{not, nat_eq, ◌==◌}
-use Rattle.std.specs.List.{list_all}
 use Rattle.std.specs.Option.{option_eq}
-use Rattle.std.proofs.lemmas.List.Folds.{list_all-map}
 use Rattle.dia_book.proofs.Lists.{and_true, and_false}
 use Rattle.dia_ccf.specs.declared.source.Head.{Head}
 use Rattle.dia_ccf.specs.declared.source.Head.TheVariants.{Group, Command, Error}
@@ -14,8 +12,8 @@ use Rattle.dia_dict.specs.declared.resolving.finding.repeats.Keyed.{Keyed}
 use Rattle.dia_dict.specs.Resolution.{wrong, PlainFinding, first_defs, placed_commands, same_selector, head_of}
 use Rattle.dia_dict.specs.Selectors.{selector_of}
 use Rattle.dia_dict.specs.contracts.selectors.SelectorPartialEq.TheImpl as selectors
-use Rattle.dia_dict.specs.SourceChecks.{recorded, plain_finding, placed_def, keyed_selector, recorded_selector}
-use Rattle.dia_dict.proofs.Duplicates.{is_command, first_commands-are, again-selectors}
+use Rattle.dia_dict.specs.SourceChecks.{recorded, plain_finding, keyed_selector, recorded_selector}
+use Rattle.dia_dict.proofs.Duplicates.{first_commands-are, again-selectors}
 use Rattle.dia_dict.proofs.RepeatsRecorded.{repeats-recorded}
 use Rattle.dia_dict.proofs.resolving.finding.entries.push_commands.Goals as goal
 
@@ -34,11 +32,6 @@ same_answers (Error p) (Command d false q b) f g = refl
 same_answers (Error p) (Error q) f g = refl
 same_answers (Group c v) b f g = absurd (let e : not true ≡ true = f in cc)
 same_answers a (Group c v) f g = absurd (let e : not true ≡ true = g in cc)
-
-pub selecting-requires : goal.selecting-requires
-selecting-requires c =
-    let names = c.args.names.now in
-    sym (list_all-map is_command placed_def c.first_commands.result.now) ∙ ap (list_all is_command) c.first_commands.ensures ∙ first_commands-are names.source.now
 
 pub returns : goal.returns
 returns c =

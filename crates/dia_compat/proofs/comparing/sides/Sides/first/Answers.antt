@@ -1,0 +1,7 @@
+use Rattle.std.proofs.Common.{subst}
+use Rattle.dia_book.specs.Dictionary.{IsDictionary}
+use Rattle.dia_compat.specs.Sides.{Sides}
+use Rattle.dia_compat.proofs.comparing.sides.Sides.first.Goals as goal
+
+pub returns-clause-sound : goal.returns-clause-sound
+returns-clause-sound g c = subst (λ (s : Sides). IsDictionary s.first) c.self.view_is (g.met.A.Book.sound c.self.inside.first.now)

@@ -1,0 +1,17 @@
+pub mod TableText
+pub mod WrittenTable
+pub mod Words
+pub mod Lines
+pub mod Below
+pub mod Closed
+pub mod Proposed
+pub mod Sides
+pub mod Tests
+pub mod CommandsByCode
+pub mod PairTests
+pub mod FirstFailures
+pub mod ReachedKeys
+pub mod WantedNames
+pub mod NamedCommands
+pub mod Failings
+pub mod FailingRules

@@ -1,8 +1,0 @@
-use Rattle.std.proofs.Common.{◌≡◌, true, take}
-use Rattle.std.specs.List.{list_all}
-use Rattle.dia_inclusion.specs.Tests.{covered_rule}
-use Rattle.dia_inclusion.specs.PairTests.{is_covered}
-use Rattle.dia_inclusion.proofs.comparing.keys.all_covered.Given as goal
-
-abbrev pub invariant-loop-rule : goal.invariant-loop-rule
-invariant-loop-rule g l = list_all (covered_rule (is_covered l.cover)) (take l.rule-index l.rule-items) ≡ true

@@ -1,6 +1,0 @@
-use Rattle.std.proofs.Common.{◌≡◌, map, take, Bor, List, ℕ}
-use Rattle.dia_book.specs.Dictionary.{PlainDefinition}
-use Rattle.dia_inclusion.proofs.comparing.named_book.names_of_commands.Given as goal
-
-abbrev pub invariant-loop-index : goal.invariant-loop-index
-invariant-loop-index g l = map (λ (n : Bor (List ℕ)). n.now) l.names.value.keys ≡ take l.index (map (λ (c : PlainDefinition). c.name) (g.B.Book.meaning l.book).commands)

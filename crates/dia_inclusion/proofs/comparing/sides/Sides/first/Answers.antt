@@ -1,7 +1,0 @@
-use Rattle.std.proofs.Common.{subst}
-use Rattle.dia_book.specs.Dictionary.{IsDictionary}
-use Rattle.dia_inclusion.specs.Sides.{Sides}
-use Rattle.dia_inclusion.proofs.comparing.sides.Sides.first.Goals as goal
-
-pub returns-clause-sound : goal.returns-clause-sound
-returns-clause-sound g c = subst (λ (s : Sides). IsDictionary s.first) c.self.view_is (g.met.A.Book.sound c.self.inside.first.now)

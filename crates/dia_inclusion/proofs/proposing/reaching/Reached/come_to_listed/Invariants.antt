@@ -1,6 +1,0 @@
-use Rattle.std.proofs.Common.{take}
-use Rattle.dia_inclusion.specs.ReachedKeys.{IsAllowed, ComesToAll}
-use Rattle.dia_inclusion.proofs.proposing.reaching.Reached.come_to_listed.Given as goal
-
-abbrev pub invariant-loop-rule : goal.invariant-loop-rule
-invariant-loop-rule g l = ComesToAll l.sides (IsAllowed (take l.rule-index l.rules)) l.fn.self l.self

@@ -1,6 +1,0 @@
-use Rattle.std.proofs.Common.{take}
-use Rattle.dia_inclusion.proofs.ReachedKeys.{SortsAll}
-use Rattle.dia_inclusion.proofs.proposing.reaching.Reached.come_to_unlisted.Given as goal
-
-abbrev pub invariant-loop-key : goal.invariant-loop-key
-invariant-loop-key g l = SortsAll l.sides l.rules (take l.key-index l.key-items) l.initial.self l.self

@@ -1,9 +1,0 @@
-use Rattle.dia_inclusion.specs.ReachedKeys.{potential}
-use Rattle.dia_inclusion.proofs.FollowedKeys.{Following}
-use Rattle.dia_inclusion.proofs.proposing.reaching.Reached.follow.Given as goal
-
-abbrev pub invariant-loop-key : goal.invariant-loop-key
-invariant-loop-key g l = Following l.sides l.fn.self l.self
-
-abbrev pub decreases-loop-key : goal.decreases-loop-key
-decreases-loop-key g l = potential l.sides.first l.self

@@ -1,8 +1,0 @@
-use Rattle.std.proofs.Common.{◌≡◌, map, take}
-use Rattle.std.specs.List.{filter_map}
-use Rattle.dia_tables.specs.TableText.{plain_pair}
-use Rattle.dia_inclusion.specs.NamedCommands.{shared_pair}
-use Rattle.dia_inclusion.proofs.proposing.shared_pairs.Given as goal
-
-abbrev pub invariant-loop-index : goal.invariant-loop-index
-invariant-loop-index g l = map plain_pair l.pairs.items ≡ filter_map (shared_pair l.sides.second l.reached) (take l.index l.sides.first.entries)

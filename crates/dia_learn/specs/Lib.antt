@@ -1,0 +1,4 @@
+pub mod Kept
+pub mod Levels
+pub mod Open
+pub mod Placed

@@ -1,0 +1,11 @@
+//! What messages have, as a dictionary: their levels, read by a dictionary, and what is kept of them.
+#![tactic(auto)]
+
+mod laws;
+mod place;
+mod seen;
+mod taking;
+
+pub use laws::valid_levels;
+pub use place::{Place, Spot};
+pub use seen::{Flags, Seen};

@@ -1,0 +1,4 @@
+mod Apart
+mod Colons
+mod Found
+mod Marks

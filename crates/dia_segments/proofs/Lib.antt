@@ -1,0 +1,2 @@
+pub mod Untagged
+pub mod Extended

@@ -1,3 +1,0 @@
-pub mod WordsOfLines
-pub mod TableLines
-pub mod TableReadBack

@@ -1,6 +1,0 @@
-use Rattle.std.specs.Str.Lines.{lines}
-use Rattle.dia_tables.proofs.TableLines.{one_table_of}
-use Rattle.dia_tables.proofs.laws.one_table.Goals as goal
-
-pub returns : goal.returns
-returns c = λ text a b x y. one_table_of (lines text) a b x y

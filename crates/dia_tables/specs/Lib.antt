@@ -1,4 +1,0 @@
-pub mod TableText
-pub mod WrittenTable
-pub mod Words
-pub mod Lines

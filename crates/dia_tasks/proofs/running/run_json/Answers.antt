@@ -1,4 +1,0 @@
-use Rattle.dia_tasks.proofs.running.run_json.Goals as goal
-
-pub returns-in-Show : goal.returns-in-Show
-returns-in-Show g c = rw c.in-Show.is c.show_json.ensures

@@ -1,8 +1,0 @@
-use Rattle.dia_tasks.proofs.running.show_plainly.Goals as goal
-use Rattle.dia_tasks.proofs.Commands.{show_with_words}
-
-pub returns-in-Nowhere : goal.returns-in-Nowhere
-returns-in-Nowhere g c = rw c.in-Nowhere.is c.answer.ensures
-
-pub returns-in_default : goal.returns-in_default
-returns-in_default g c = show_with_words c.args.origins.now.table c.args.inputs.now _ _ c.in_default.not-Nowhere c.show_words.ensures
