@@ -412,6 +412,31 @@ class Model:
             found[path, reason, key] = (detail, length)
         return found
 
+    def ignored(self, command):
+        """Of each level that both sides read the definitions, and the keys that A's lists and B's takes by its wildcard alone, but
+        not those of AVPs that break by themselves."""
+        broken = {key for _, reason, key in self.lines(command) if reason in ("unknown", "m-bit", "format", "undecided")}
+        starts = [(path, b) for path, _, b in self.selected(command) if b is not None and 20 + self.least(command) <= LONGEST]
+        pairs = [(command, b) for _, b in starts]
+        if starts:
+            levels, _ = self.walk(starts[0][0], command)
+            pairs += [(a, self.b.entries[key].group) for _, _, a, key in levels[1:]]
+        for a, b in pairs:
+            if b.wildcard() and b.wildcard().high > 0:
+                for rule in a.rules:
+                    if rule.key is not None and rule.high > 0 and not b.rule(rule.key) and rule.key not in broken:
+                        yield a, b, rule.key
+
+    def corresponds(self, a, b):
+        """Whether the definitions, of which A's and B's sides read one level, are of one group or of commands that correspond."""
+        if a not in self.a.commands:
+            return True
+        same = next((d for d in self.b.commands if (d.selector, d.app) == (a.selector, a.app)), None)
+        named = next((d for d in self.b.commands if d.name == a.name), None)
+        if same is None and named and all((d.selector, d.app) != (named.selector, named.app) for d in self.a.commands):
+            same = named
+        return b is same
+
     def walk(self, start, command):
         """The levels that both sides read, in the order of their lines: path, what is around one, definition of A, and key. And for
         each key the first of its shortest ways: its length, whether it goes through a wildcard, and the number of its level."""

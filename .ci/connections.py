@@ -1,4 +1,5 @@
-"""What the lines of `follow` say, and the summary that standard error has of them (docs/FORMATS.md)."""
+"""What the lines of `follow` say, the summary that standard error has of them (docs/FORMATS.md), and which answers lack their result,
+where there is silence, and where an Origin-State-Id changes (RFC 6733 sections 7.1, 7.6 and 8.16, RFC 3539 section 3.4.1)."""
 
 import dataclasses
 import json
@@ -11,6 +12,10 @@ FINDING = re.compile(r"(?P<kind>departure|note) (?P<reason>\S+): (?P<text>.*?)(?
 SECOND = 10**9
 MOST_NAMES = 100
 """How many commands have a line of their own; the requests of all others are counted as `others`."""
+RESULT_CODE, EXPERIMENTAL_RESULT, ORIGIN_STATE_ID = 268, 297, 278
+NEIGHBORS = {257, 280, 282}
+"""Capabilities-Exchange, Device-Watchdog, Disconnect-Peer."""
+MOST_SILENCE = 32 * SECOND
 NO_CER = "no-cer: where the capture begins in the middle of the connection, use --middle"
 MISSING = "answers-nothing, order: packets may be missing from the capture, or exchanged in it"
 
@@ -163,3 +168,76 @@ def summary(connection, said):
         *hints(said),
     )
     return "".join(f"{line}\n" for line in lines)
+
+
+@dataclasses.dataclass
+class Sent:
+    """A line of a connection that has bytes."""
+    line: int
+    end: str
+    time: int | None
+    bytes: bytes
+
+    @property
+    def is_read(self):
+        return len(self.bytes) >= 20 and self.bytes[0] == 1 and self.length >= 20 and self.length % 4 == 0
+
+    @property
+    def length(self):
+        return int.from_bytes(self.bytes[1:4], "big")
+
+    @property
+    def is_request(self):
+        return bool(self.bytes[4] & 0x80)
+
+    @property
+    def code(self):
+        return int.from_bytes(self.bytes[5:8], "big")
+
+    def avps(self):
+        """The data of AVPs without vendor by their codes, the first of each; None unless the whole body is AVPs."""
+        found, at = {}, 20
+        if not self.is_read or len(self.bytes) < self.length:
+            return None
+        while at < self.length:
+            head = 12 if self.length - at >= 8 and self.bytes[at + 4] & 0x80 else 8
+            length = int.from_bytes(self.bytes[at + 5:at + 8], "big")
+            end = at + length + -length % 4
+            if self.length - at < head or length < head or end > self.length:
+                return None
+            vendor = int.from_bytes(self.bytes[at + 8:at + 12], "big") if head == 12 else 0
+            if vendor == 0:
+                found.setdefault(int.from_bytes(self.bytes[at:at + 4], "big"), self.bytes[at + head:at + length])
+            at = end
+        return found
+
+
+def sent_in(connection):
+    for at, line in enumerate(connection.splitlines(), 1):
+        words = [] if line.startswith("#") else line.split()
+        if words:
+            yield Sent(at, words[0], nanoseconds(words[1]) if len(words) == 3 else None, bytes.fromhex(words[-1]))
+
+
+def lacks_result(it, avps):
+    """What an answer lacks: 7.1 has a Result-Code in each, 7.6 an Experimental-Result in its place beyond the base protocol."""
+    if it.is_request or RESULT_CODE in avps or (EXPERIMENTAL_RESULT in avps and it.code not in NEIGHBORS):
+        return None
+    return "no Result-Code" if it.code in NEIGHBORS else "neither Result-Code nor Experimental-Result"
+
+
+def outcomes(connection):
+    """Line, end, reason and text of each `no-result`, `silence` and `origin-state` of a connection of which no line is refused."""
+    states, last = {}, None
+    for it in sent_in(connection):
+        avps = it.avps()
+        if avps is not None and lacks_result(it, avps):
+            yield it.line, it.end, "no-result", lacks_result(it, avps)
+        if it.is_read and last is not None and it.time is not None and it.time - last > MOST_SILENCE:
+            yield it.line, it.end, "silence", f"{seconds(it.time - last)} s"
+        last = it.time
+        if avps is not None and it.code in NEIGHBORS and len(avps.get(ORIGIN_STATE_ID, b"")) == 4:
+            now = int.from_bytes(avps[ORIGIN_STATE_ID], "big")
+            if states.get(it.end, now) != now:
+                yield it.line, it.end, "origin-state", f"{now}, {states[it.end]} before"
+            states[it.end] = now

@@ -21,6 +21,8 @@
  *    program's memory; the one pointer into the library's is that of dia_text_view.
  *  - A function that may fail answers a status, DIA_OK or another. On any other than DIA_OK it has changed only what its comment
  *    names.
+ *  - Where several statuses apply, DIA_BAD_ARGUMENT comes before DIA_IS_OPEN, this before DIA_IS_CLOSED, and these before all others.
+ *    dia_verdict_text alone answers DIA_IS_CLOSED before DIA_BAD_ARGUMENT: the dictionary says which verdicts it has.
  *  - A function may answer DIA_NO_MEMORY, where malloc or realloc refused, unless its comment says "takes no memory".
  *  - No function waits, prints, calls back, reads a clock or a file, or has state outside its handles.
  *  - An open handle holds a pointer to what the library owns, and is closed once; closing a closed handle does nothing.
@@ -268,7 +270,7 @@ enum {
     DIA_ABOUT_WILDCARD = 2 /* AVPs that no rule lists are missing */
 };
 
-/* Fields that an outcome does not have are 0. */
+/* Fields that an outcome does not have are 0. A call that writes a verdict writes all its fields. */
 typedef struct dia_verdict {
     uint32_t outcome;
     uint32_t command;    /* of DIA_VALID: for dia_command_name */
@@ -278,6 +280,7 @@ typedef struct dia_verdict {
     uint32_t subject;    /* of DIA_FAULT: DIA_ABOUT_.. */
     uint32_t avp_code;   /* of DIA_ABOUT_AVP */
     uint32_t avp_vendor; /* of DIA_ABOUT_AVP; 0: none */
+    uint32_t reserved[4]; /* each 0: the place of fields that are added within this version */
 } dia_verdict;
 
 /* Checks the bytes of one message. DIA_OK: *verdict is what `diacmd check` says; it is written on no other status.
@@ -290,7 +293,7 @@ dia_status dia_check(dia_dict *dict, uint32_t unknown, uint32_t levels, const ui
  * `end_count` messages. Message i begins where the one before it ends, the first at offset 0, and ends before offset ends[i]; so
  * they are of any lengths, and bytes after the last one are not read. `verdict_count` is `end_count`.
  * The verdicts are written on DIA_OK alone. DIA_BAD_ARGUMENT: `unknown` is neither of its two values, `verdict_count` is another
- * number, an end is less than the one before it, or an end is more than `bytes_len`. It takes 32 bytes of memory for each
+ * number, an end is less than the one before it, or an end is more than `bytes_len`. It takes 48 bytes of memory for each
  * message, and frees them. */
 dia_status dia_check_many(dia_dict *dict, uint32_t unknown, uint32_t levels, const uint8_t *bytes, size_t bytes_len, const size_t *ends,
                           size_t end_count, dia_verdict *verdicts, size_t verdict_count);
@@ -334,7 +337,8 @@ dia_status dia_verdict_text(dia_dict *dict, const dia_verdict *verdict, uint8_t 
 
 /* ---- the AVPs of a message ---- */
 
-/* An AVP (RFC 6733 section 4.1). Offsets are in bytes from the first of the message. */
+/* An AVP (RFC 6733 section 4.1). Offsets are in bytes from the first of the message. A call that delivers an AVP writes all its
+ * fields. */
 typedef struct dia_avp {
     size_t place;       /* where it begins */
     size_t depth;       /* how many groups are around it; 0: it is in the body */
@@ -347,24 +351,27 @@ typedef struct dia_avp {
     uint32_t flags;     /* AVP Flags, 8 bits */
     uint32_t format;    /* DIA_F_.. */
     uint8_t name[DIA_MAX_NAME]; /* the dictionary's name, and zeros after it */
+    uint64_t reserved[4]; /* each 0: the place of fields that are added within this version */
 } dia_avp;
 
-/* Delivers the AVPs of a message in the order of their bytes, each group that the dictionary has followed by its members, as
- * `diacmd show` lists them. *count is the number of all. The first of them, as many as there is room for, are in `avps`; the rest of
- * `avps` is as before. *end is `message_len`; or less, where an AVP Length that no AVP can have begins an AVP at this offset, and
- * ends the list. The message need not be valid.
+/* In each of these three calls an AVP Length that no AVP can have ends its own level: the body of the message, or the data of a
+ * group. AVPs go on after the group. The message need not be valid. */
+
+/* Delivers the AVPs of a message in the order of their bytes, each group that the dictionary has followed by its members. *count is
+ * the number of all. The first of them, as many as there is room for, are in `avps`; the rest of `avps` is as before. *bad is the
+ * offset at which the first AVP would begin whose AVP Length no AVP can have; or `message_len`, where there is none.
  * DIA_NO_ROOM: there are more than `avp_room`, and `avps` has the first of them. With `avp_room` 0 the AVPs are counted.
  * DIA_REFUSED: the bytes are no message. *verdict says why, and is written on no other status: DIA_TRUNCATED, DIA_TRAILING, or the
  * fault of the version or of the Message Length.
- * *count and *end are written on DIA_OK and DIA_NO_ROOM alone. On DIA_NO_MEMORY `avps` may have some of the AVPs. The call takes
+ * *count and *bad are written on DIA_OK and DIA_NO_ROOM alone. On DIA_NO_MEMORY `avps` may have some of the AVPs. The call takes
  * memory for the groups that are open at once, and frees it. */
 dia_status dia_avps(dia_dict *dict, const uint8_t *message, size_t message_len, dia_avp *avps, size_t avp_room, size_t *count,
-                    size_t *end, dia_verdict *verdict);
+                    size_t *bad, dia_verdict *verdict);
 
 /* Delivers those of the AVPs of a message that hold the byte at an offset, the outermost first: each but the last is a group that the
  * dictionary has, and holds the next one. *count is the number of all. The first of them, as many as there is room for, are in
  * `avps`; the rest of `avps` is as before. The bytes of the header are in no AVP, and padding and what begins no AVP are in the
- * groups around them alone. The message need not be valid.
+ * groups around them alone.
  * Of a fault about an AVP, with its place as the offset, the last one is that AVP, whose `length` is how many bytes the fault
  * covers, and those before it are the groups around it. Of DIA_R_AVP_LENGTH no AVP begins at the place, and all are groups around
  * it. The place of DIA_R_MISSING is the end of the level: the groups that hold the byte before it are those around the end, of which
@@ -373,6 +380,12 @@ dia_status dia_avps(dia_dict *dict, const uint8_t *message, size_t message_len, 
  * DIA_REFUSED: as of dia_avps. *count is written on DIA_OK and DIA_NO_ROOM alone. Takes no memory. */
 dia_status dia_avps_at(dia_dict *dict, const uint8_t *message, size_t message_len, size_t offset, dia_avp *avps, size_t avp_room,
                        size_t *count, dia_verdict *verdict);
+
+/* Delivers the first AVP of a message that has this code and this vendor, and is in no group. `vendor` 0 is an AVP without a
+ * Vendor-ID, or with the Vendor-ID 0. *avp is written on DIA_OK alone. DIA_NONE: there is none.
+ * DIA_REFUSED: as of dia_avps. Takes no memory. */
+dia_status dia_avp_find(dia_dict *dict, const uint8_t *message, size_t message_len, uint32_t code, uint32_t vendor, dia_avp *avp,
+                        dia_verdict *verdict);
 
 /* ---- messages that come in pieces ---- */
 

@@ -1,9 +1,9 @@
 #!/usr/bin/env python3
-"""Writes docs/LIBRARY-REFERENCE.md, the reference of libdia, out of the comments and declarations of dia.h.
+"""Prints the reference of libdia, in Markdown, out of the comments and declarations of dia.h.
 
-    c/reference.py [--check]
+    c/reference.py > FILE
 
-With --check it writes nothing, and the status is 1 where the document isn't what it would write.
+The status is 1 where dia.h has a call that the reference lacks.
 
 A part of dia.h begins with a line `/* ---- TITLE ---- */`. In a part paragraphs are separated by empty lines: a comment, and the
 declarations that it is about."""
@@ -15,11 +15,10 @@ import sys
 
 C = pathlib.Path(__file__).resolve().parent
 HEADER = C / "dia.h"
-MADE = C.parent / "docs/LIBRARY-REFERENCE.md"
 BEGIN = """# Reference of libdia
 
-For programmers who call `libdia`: all calls, structs and numbers of `c/dia.h`, of which `c/reference.py` makes this page. LIBRARY.md shows \
-how a program begins. The clauses of `crates/dia_c/src` say exactly what each call does.
+For programmers who call `libdia`: all calls, structs and numbers of `dia.h`, of which `c/reference.py` makes this page. In the sources \
+LIBRARY.md shows how a program begins, and the clauses of `crates/dia_c/src` say exactly what each call does.
 """
 PART = re.compile(r"^/\* ---- (.*) ---- \*/$", re.M)
 COMMENT = re.compile(r"/\*(.*?)\*/", re.S)
@@ -142,11 +141,8 @@ def main():
     calls = set(CALL.findall(COMMENT.sub("", HEADER.read_text(encoding="ascii"))))
     missing = [name for name in calls if f"### `{name}`" not in made and f", `{name}`" not in made]
     if missing:
-        sys.exit(f"{MADE}: it lacks {', '.join(sorted(missing))}")
-    if "--check" not in sys.argv:
-        MADE.write_text(made, encoding="utf-8")
-    elif not MADE.exists() or MADE.read_text(encoding="utf-8") != made:
-        sys.exit(f"{MADE}: it isn't what dia.h has: run c/reference.py")
+        sys.exit(f"the reference lacks {', '.join(sorted(missing))}")
+    print(made, end="")
 
 
 main()

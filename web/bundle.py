@@ -4,7 +4,7 @@
     web/bundle.py MODULE PAGE
 
 MODULE is diacmd.wasm. In PAGE are the module, the worker and the dictionaries, each compressed; the scripts of web/page, one after
-another; and the policy by which the browser runs no other script, and opens no connection."""
+another; the policy by which the browser runs no other script, and opens no connection; and the commit of its sources."""
 
 import base64
 import gzip
@@ -13,11 +13,15 @@ import html
 import json
 import pathlib
 import re
+import subprocess
 import sys
 
 HERE = pathlib.Path(__file__).resolve().parent
 TOP = HERE.parent
 PAGE = HERE / "page"
+KEPT = HERE / "wittalen.html"
+"""The page in the repository: no source of itself."""
+
 DICTIONARIES = TOP / "dictionaries"
 SCRIPTS = (TOP / "integrations/report/report.js", *(PAGE / f"{name}.js" for name in (
     "dom", "program", "places", "pane", "message", "breaks", "check", "others", "connection", "reports", "link", "examples", "main")))
@@ -81,12 +85,32 @@ def policy(script, style):
             + "; worker-src blob:; img-src data:; base-uri 'none'; form-action 'none'")
 
 
+def git(*words):
+    """What git writes about the sources, or nothing where they are no clone."""
+    command = ("git", "-C", TOP, *words, "--", ".", f":!{KEPT.relative_to(TOP)}")
+    try:
+        return subprocess.run(command, stdout=subprocess.PIPE, stderr=subprocess.DEVNULL, text=True, check=True).stdout.strip()
+    except (OSError, subprocess.CalledProcessError):
+        return ""
+
+
+def commit():
+    """The commit that last changed the sources, or nothing where they aren't those of a commit."""
+    return "" if git("status", "--porcelain") else git("log", "-1", "--format=%H")
+
+
+def build(module):
+    sources = commit()
+    return (f"Its sources are those of commit {sources}. " if sources else "") + (
+        f"The module has {len(module):,} bytes; its SHA-256 is {hashlib.sha256(module).hexdigest()}.")
+
+
 def page(module):
     script, style = "".join(map(read, SCRIPTS)), read(PAGE / "style.css")
     contents = {"module": module, "worker": read(PAGE / "worker.js").encode(), "data": json.dumps(data()).encode()}
     values = {
         "POLICY": html.escape(policy(script, style), quote=False), "STYLE": style, "SCRIPT": script,
-        "BUILD": f"The module has {len(module):,} bytes; its SHA-256 is {hashlib.sha256(module).hexdigest()}.",
+        "BUILD": build(module),
         "DATA": "\n".join(f'<script type="text/plain" id="{name}">{packed(content)}</script>' for name, content in contents.items()),
     }
     return re.sub("|".join(f"%{name}%" for name in values), lambda found: values[found.group(0).strip("%")], read(PAGE / "index.html"))
@@ -98,4 +122,5 @@ def main():
     print(f"web/bundle.py: {out}, {out.stat().st_size:,} bytes", file=sys.stderr)
 
 
-main()
+if __name__ == "__main__":
+    main()

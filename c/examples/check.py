@@ -19,7 +19,8 @@ class Fault(c.Structure):
 
 class Verdict(c.Structure):
     _fields_ = [(name, c.c_uint32) for name in
-                ("outcome", "command", "code", "place", "reason", "subject", "avp_code", "avp_vendor")]
+                ("outcome", "command", "code", "place", "reason", "subject", "avp_code", "avp_vendor")] \
+        + [("reserved", c.c_uint32 * 4)]
 
 
 KEPT, ANY_LEVELS = c.c_uint32(0), c.c_uint32(0xFFFFFFFF)

@@ -113,7 +113,7 @@ static void handles_are_open_or_closed(void) {
     dia_dict dict = DIA_DICT_INIT, other = DIA_DICT_INIT;
     dia_text text = DIA_TEXT_INIT;
     dia_problem problem = {99, 99, 99};
-    dia_verdict verdict = {99, 99, 99, 99, 99, 99, 99, 99};
+    dia_verdict verdict = {99, 99, 99, 99, 99, 99, 99, 99, {99, 99, 99, 99}};
     uint8_t name[DIA_MAX_NAME];
     size_t count = 99;
     EXPECT(dia_check(&dict, DIA_KEPT, 0, watchdog, 64, &verdict) == DIA_IS_CLOSED && verdict.outcome == 99);
@@ -252,7 +252,7 @@ static void headers_are_delivered(void) {
     /* version 1, length 24, flags P and E, code 0x010203, and the numbers 4 to 15 */
     static const uint8_t bytes[21] = {1, 0, 0, 24, 0x60, 1, 2, 3, 4, 5, 6, 7, 8, 9, 10, 11, 12, 13, 14, 15, 255};
     dia_head head = untouched;
-    dia_verdict v = {99, 99, 99, 99, 99, 99, 99, 99};
+    dia_verdict v = {99, 99, 99, 99, 99, 99, 99, 99, {99, 99, 99, 99}};
     uint8_t m[20];
     EXPECT(dia_header(bytes, 19, &head, &v) == DIA_REFUSED && v.outcome == DIA_TRUNCATED);
     EXPECT(memcmp(&head, &untouched, sizeof head) == 0);

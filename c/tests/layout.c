@@ -30,7 +30,7 @@ AT(dia_fault, has_place, 32);
 AT(dia_fault, name, 36);
 AT(dia_fault, slot, 164);
 
-_Static_assert(sizeof(dia_verdict) == 32, "dia_verdict");
+_Static_assert(sizeof(dia_verdict) == 48, "dia_verdict");
 AT(dia_verdict, outcome, 0);
 AT(dia_verdict, command, 4);
 AT(dia_verdict, code, 8);
@@ -39,6 +39,7 @@ AT(dia_verdict, reason, 16);
 AT(dia_verdict, subject, 20);
 AT(dia_verdict, avp_code, 24);
 AT(dia_verdict, avp_vendor, 28);
+AT(dia_verdict, reserved, 32);
 
 _Static_assert(sizeof(dia_peer) == 16, "dia_peer");
 AT(dia_peer, dia_private, 0);
@@ -86,7 +87,7 @@ _Static_assert(sizeof(dia_fed) == 16, "dia_fed");
 AT(dia_fed, taken, 0);
 AT(dia_fed, done, 8);
 
-_Static_assert(sizeof(dia_avp) == 192, "dia_avp");
+_Static_assert(sizeof(dia_avp) == 224, "dia_avp");
 AT(dia_avp, place, 0);
 AT(dia_avp, depth, 8);
 AT(dia_avp, length, 16);
@@ -98,6 +99,7 @@ AT(dia_avp, vendor, 52);
 AT(dia_avp, flags, 56);
 AT(dia_avp, format, 60);
 AT(dia_avp, name, 64);
+AT(dia_avp, reserved, 192);
 
 _Static_assert(sizeof(dia_head) == 24, "dia_head");
 AT(dia_head, length, 0);

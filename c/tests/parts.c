@@ -2,7 +2,7 @@
  * is worked out by hand from the texts and from RFC 6733. */
 #include "tests.h"
 
-static const dia_verdict untouched = {99, 99, 99, 99, 99, 99, 99, 99};
+static const dia_verdict untouched = {99, 99, 99, 99, 99, 99, 99, 99, {99, 99, 99, 99}};
 
 /* Two declarations, a group without one, and commands of each class. */
 static const char text[] = "%avp A 1 OctetString any\n%avp Vendors 2 vendor 10415 Enumerated mustnot\n"
@@ -95,7 +95,7 @@ static void bytes_are_in_avps(void) {
     dia_dict dict = DIA_DICT_INIT;
     dia_avp avps[3], all[3];
     dia_verdict verdict = untouched;
-    size_t count = 99, end;
+    size_t count = 99, bad;
     memset(avps, FILLING, sizeof avps);
     EXPECT(dia_avps_at(&dict, grouped, sizeof grouped, 28, avps, 3, &count, &verdict) == DIA_IS_CLOSED && count == 99);
     EXPECT(dia_dict_open_base(&dict) == DIA_OK);
@@ -105,7 +105,7 @@ static void bytes_are_in_avps(void) {
     EXPECT(dia_avps_at(&dict, grouped, sizeof grouped, 28, avps, 1, &count, &verdict) == DIA_NO_ROOM && count == 2);
     EXPECT(avps[0].place == 20 && are_left(avps + 1, 2));
     EXPECT(dia_avps_at(&dict, grouped, sizeof grouped, 28, NULL, 0, &count, &verdict) == DIA_NO_ROOM && count == 2);
-    EXPECT(dia_avps(&dict, grouped, sizeof grouped, all, 3, &count, &end, &verdict) == DIA_OK && count == 3);
+    EXPECT(dia_avps(&dict, grouped, sizeof grouped, all, 3, &count, &bad, &verdict) == DIA_OK && count == 3);
     for (size_t i = 0; i < sizeof wanted / sizeof *wanted; i++) {
         memset(avps, FILLING, sizeof avps);
         count = 99;

@@ -2,7 +2,7 @@
  * the rest is worked out by hand from RFC 6733. */
 #include "tests.h"
 
-static const dia_verdict untouched = {99, 99, 99, 99, 99, 99, 99, 99};
+static const dia_verdict untouched = {99, 99, 99, 99, 99, 99, 99, 99, {99, 99, 99, 99}};
 
 /* ---- words ---- */
 
@@ -76,14 +76,14 @@ static void has_no_line(dia_dict *dict, const dia_verdict *verdict) {
 }
 
 static void verdicts_have_lines(void) {
-    static const dia_verdict truncated = {DIA_TRUNCATED, 0, 0, 0, 0, 0, 0, 0}, trailing = {DIA_TRAILING, 0, 0, 0, 0, 0, 0, 0};
-    static const dia_verdict about_nothing = {DIA_FAULT, 0, 5011, 0, DIA_R_VERSION, DIA_ABOUT_NOTHING, 0, 0};
-    static const dia_verdict known = {DIA_FAULT, 0, 5009, 80, DIA_R_TOO_MANY, DIA_ABOUT_AVP, 264, 0};
-    static const dia_verdict unknown = {DIA_FAULT, 0, 5001, 4294967295u, DIA_R_UNKNOWN, DIA_ABOUT_AVP, 9999, 10415};
-    static const dia_verdict wildcard = {DIA_FAULT, 0, 5005, 20, DIA_R_MISSING, DIA_ABOUT_WILDCARD, 0, 0};
-    static const dia_verdict no_reason = {DIA_FAULT, 0, 5005, 20, 15, DIA_ABOUT_WILDCARD, 0, 0};
-    static const dia_verdict no_subject = {DIA_FAULT, 0, 5005, 20, DIA_R_MISSING, 3, 0, 0};
-    static const dia_verdict no_command = {DIA_VALID, 4294967295u, 0, 0, 0, 0, 0, 0}, a_group = {DIA_VALID, 0, 0, 0, 0, 0, 0, 0};
+    static const dia_verdict truncated = {DIA_TRUNCATED, 0, 0, 0, 0, 0, 0, 0, {0}}, trailing = {DIA_TRAILING, 0, 0, 0, 0, 0, 0, 0, {0}};
+    static const dia_verdict about_nothing = {DIA_FAULT, 0, 5011, 0, DIA_R_VERSION, DIA_ABOUT_NOTHING, 0, 0, {0}};
+    static const dia_verdict known = {DIA_FAULT, 0, 5009, 80, DIA_R_TOO_MANY, DIA_ABOUT_AVP, 264, 0, {0}};
+    static const dia_verdict unknown = {DIA_FAULT, 0, 5001, 4294967295u, DIA_R_UNKNOWN, DIA_ABOUT_AVP, 9999, 10415, {0}};
+    static const dia_verdict wildcard = {DIA_FAULT, 0, 5005, 20, DIA_R_MISSING, DIA_ABOUT_WILDCARD, 0, 0, {0}};
+    static const dia_verdict no_reason = {DIA_FAULT, 0, 5005, 20, 15, DIA_ABOUT_WILDCARD, 0, 0, {0}};
+    static const dia_verdict no_subject = {DIA_FAULT, 0, 5005, 20, DIA_R_MISSING, 3, 0, 0, {0}};
+    static const dia_verdict no_command = {DIA_VALID, 4294967295u, 0, 0, 0, 0, 0, 0, {0}}, a_group = {DIA_VALID, 0, 0, 0, 0, 0, 0, 0, {0}};
     dia_dict dict = DIA_DICT_INIT;
     dia_verdict verdict = untouched;
     uint8_t line[DIA_MAX_LINE];
@@ -105,6 +105,9 @@ static void verdicts_have_lines(void) {
     has_no_line(&dict, &a_group);
     verdict.place = 1; /* a valid message has none */
     has_no_line(&dict, &verdict);
+    verdict.place = 0;
+    verdict.reserved[3] = 1; /* no field has this place */
+    has_no_line(&dict, &verdict);
     dia_dict_close(&dict);
 }
 
@@ -117,7 +120,8 @@ static int is_avp(const dia_avp *avp, size_t place, size_t depth, size_t length,
     size_t len = strlen(name);
     return avp->place == place && avp->depth == depth && avp->length == length && avp->data_place == place + 8
         && avp->data_length == length - 8 && avp->code == code && avp->vendor == 0 && avp->flags == 0x40 && avp->format == format
-        && avp->name_count == len && memcmp(avp->name, name, len) == 0 && memcmp(avp->name + len, zeros, sizeof zeros - len) == 0;
+        && avp->name_count == len && memcmp(avp->name, name, len) == 0 && memcmp(avp->name + len, zeros, sizeof zeros - len) == 0
+        && memcmp(avp->reserved, zeros, sizeof avp->reserved) == 0;
 }
 
 static int are_left(const dia_avp *avps, size_t count) {
@@ -131,55 +135,130 @@ static void avps_are_delivered(void) {
     dia_dict dict = DIA_DICT_INIT;
     dia_avp avps[4];
     dia_verdict verdict = untouched;
-    size_t count = 99, end = 99;
+    size_t count = 99, bad = 99;
     memset(avps, FILLING, sizeof avps);
-    EXPECT(dia_avps(&dict, grouped, sizeof grouped, avps, 4, &count, &end, &verdict) == DIA_IS_CLOSED);
+    EXPECT(dia_avps(&dict, grouped, sizeof grouped, avps, 4, &count, &bad, &verdict) == DIA_IS_CLOSED);
     EXPECT(dia_dict_open_base(&dict) == DIA_OK);
-    EXPECT(dia_avps(&dict, grouped, sizeof grouped - 1, avps, 4, &count, &end, &verdict) == DIA_REFUSED);
-    EXPECT(verdict.outcome == DIA_TRUNCATED && count == 99 && end == 99);
+    EXPECT(dia_avps(&dict, grouped, sizeof grouped - 1, avps, 4, &count, &bad, &verdict) == DIA_REFUSED);
+    EXPECT(verdict.outcome == DIA_TRUNCATED && count == 99 && bad == 99);
     verdict = untouched;
-    EXPECT(dia_avps(&dict, grouped, sizeof grouped, avps, 0, &count, &end, &verdict) == DIA_NO_ROOM && count == 3 && end == 52);
+    EXPECT(dia_avps(&dict, grouped, sizeof grouped, avps, 0, &count, &bad, &verdict) == DIA_NO_ROOM && count == 3 && bad == 52);
     EXPECT(are_left(avps, 4));
-    count = end = 99;
-    EXPECT(dia_avps(&dict, grouped, sizeof grouped, avps, 2, &count, &end, &verdict) == DIA_NO_ROOM && count == 3 && end == 52);
+    count = bad = 99;
+    EXPECT(dia_avps(&dict, grouped, sizeof grouped, avps, 2, &count, &bad, &verdict) == DIA_NO_ROOM && count == 3 && bad == 52);
     EXPECT(is_avp(&avps[0], 20, 0, 32, 260, DIA_F_GROUPED, "Vendor-Specific-Application-Id"));
     EXPECT(is_avp(&avps[1], 28, 1, 12, 266, DIA_F_UNSIGNED32, "Vendor-Id") && are_left(avps + 2, 2));
-    count = end = 99;
-    EXPECT(dia_avps(&dict, grouped, sizeof grouped, avps, 3, &count, &end, &verdict) == DIA_OK && count == 3 && end == 52);
+    count = bad = 99;
+    EXPECT(dia_avps(&dict, grouped, sizeof grouped, avps, 3, &count, &bad, &verdict) == DIA_OK && count == 3 && bad == 52);
     EXPECT(is_avp(&avps[2], 40, 1, 12, 258, DIA_F_UNSIGNED32, "Auth-Application-Id") && are_left(avps + 3, 1));
-    EXPECT(dia_avps(&dict, vendors, sizeof vendors, avps, 4, &count, &end, &verdict) == DIA_OK && count == 1 && end == 36);
+    EXPECT(dia_avps(&dict, vendors, sizeof vendors, avps, 4, &count, &bad, &verdict) == DIA_OK && count == 1 && bad == 36);
     EXPECT(avps[0].place == 20 && avps[0].length == 15 && avps[0].data_place == 32 && avps[0].data_length == 3);
     EXPECT(avps[0].code == 9999 && avps[0].vendor == 10415 && avps[0].flags == 0x80 && avps[0].depth == 0);
     EXPECT(avps[0].format == DIA_F_UNKNOWN && avps[0].name_count == 0 && avps[0].name[0] == 0);
-    EXPECT(dia_avps(&dict, watchdog, 20, avps, 4, &count, &end, &verdict) == DIA_REFUSED && verdict.outcome == DIA_TRUNCATED);
+    EXPECT(dia_avps(&dict, watchdog, 20, avps, 4, &count, &bad, &verdict) == DIA_REFUSED && verdict.outcome == DIA_TRUNCATED);
     dia_dict_close(&dict);
 }
 
-/* An AVP that follows a group is delivered after the members of the group, and a bad AVP Length ends the list. */
+/* An AVP that follows a group is delivered after the members of the group, also where a bad AVP Length ends these. */
 static void avps_follow_groups(void) {
     uint8_t bytes[sizeof grouped + 24];
     dia_dict dict = DIA_DICT_INIT;
     dia_avp avps[4];
     dia_verdict verdict = untouched;
-    size_t count = 99, end = 99;
+    size_t count = 99, bad = 99;
     memcpy(bytes, grouped, sizeof grouped);
     memcpy(bytes + sizeof grouped, watchdog + 20, 24); /* Origin-Host */
     bytes[3] = sizeof bytes;
     EXPECT(dia_dict_open_base(&dict) == DIA_OK);
-    EXPECT(dia_avps(&dict, bytes, sizeof bytes, avps, 4, &count, &end, &verdict) == DIA_OK && count == 4 && end == 76);
+    EXPECT(dia_avps(&dict, bytes, sizeof bytes, avps, 4, &count, &bad, &verdict) == DIA_OK && count == 4 && bad == 76);
     EXPECT(is_avp(&avps[2], 40, 1, 12, 258, DIA_F_UNSIGNED32, "Auth-Application-Id"));
     EXPECT(is_avp(&avps[3], 52, 0, 24, 264, DIA_F_DIAMETER_IDENTITY, "Origin-Host"));
     bytes[47] = 7; /* the second member: an AVP has at least 8 bytes */
-    EXPECT(dia_avps(&dict, bytes, sizeof bytes, avps, 4, &count, &end, &verdict) == DIA_OK && count == 2 && end == 40);
+    EXPECT(dia_avps(&dict, bytes, sizeof bytes, avps, 4, &count, &bad, &verdict) == DIA_OK && count == 3 && bad == 40);
+    EXPECT(is_avp(&avps[1], 28, 1, 12, 266, DIA_F_UNSIGNED32, "Vendor-Id"));
+    EXPECT(is_avp(&avps[2], 52, 0, 24, 264, DIA_F_DIAMETER_IDENTITY, "Origin-Host"));
     bytes[47] = 16; /* and it ends with its group */
-    EXPECT(dia_avps(&dict, bytes, sizeof bytes, avps, 4, &count, &end, &verdict) == DIA_OK && count == 2 && end == 40);
+    EXPECT(dia_avps(&dict, bytes, sizeof bytes, avps, 4, &count, &bad, &verdict) == DIA_OK && count == 3 && bad == 40);
+    EXPECT(is_avp(&avps[2], 52, 0, 24, 264, DIA_F_DIAMETER_IDENTITY, "Origin-Host"));
+    bytes[59] = 25; /* Origin-Host would end after the message: the first of two bad lengths is reported */
+    EXPECT(dia_avps(&dict, bytes, sizeof bytes, avps, 4, &count, &bad, &verdict) == DIA_OK && count == 2 && bad == 40);
     bytes[47] = 12;
-    bytes[59] = 25; /* Origin-Host would end after the message */
-    EXPECT(dia_avps(&dict, bytes, sizeof bytes, avps, 4, &count, &end, &verdict) == DIA_OK && count == 3 && end == 52);
+    EXPECT(dia_avps(&dict, bytes, sizeof bytes, avps, 4, &count, &bad, &verdict) == DIA_OK && count == 3 && bad == 52);
     bytes[59] = 24;
     bytes[27] = 31; /* the group's data has 23 bytes, of which its second member would take 24 */
-    EXPECT(dia_avps(&dict, bytes, sizeof bytes, avps, 4, &count, &end, &verdict) == DIA_OK && count == 2 && end == 40);
+    EXPECT(dia_avps(&dict, bytes, sizeof bytes, avps, 4, &count, &bad, &verdict) == DIA_OK && count == 3 && bad == 40);
+    EXPECT(is_avp(&avps[2], 52, 0, 24, 264, DIA_F_DIAMETER_IDENTITY, "Origin-Host"));
+    bytes[27] = 7; /* the group itself: nothing of the body is read after it */
+    EXPECT(dia_avps(&dict, bytes, sizeof bytes, avps, 4, &count, &bad, &verdict) == DIA_OK && count == 0 && bad == 20);
     EXPECT(memcmp(&verdict, &untouched, sizeof verdict) == 0);
+    dia_dict_close(&dict);
+}
+
+/* Each AVP of the list is one of those that hold its first byte, whichever AVP Length is wrong elsewhere. */
+static void both_lists_agree(void) {
+    uint8_t bytes[sizeof grouped + 24];
+    dia_dict dict = DIA_DICT_INIT;
+    dia_avp avps[4], around[4];
+    dia_verdict verdict = untouched;
+    size_t count = 99, bad = 99, deep = 99;
+    memcpy(bytes, grouped, sizeof grouped);
+    memcpy(bytes + sizeof grouped, watchdog + 20, 24); /* Origin-Host */
+    bytes[3] = sizeof bytes;
+    EXPECT(dia_dict_open_base(&dict) == DIA_OK);
+    for (size_t at = 0; at < 3; at++) {
+        static const size_t lengths[3] = {27, 39, 47}; /* the last bytes of AVP Lengths: those of the group and of its members */
+        for (int length = 0; length < 64; length++) {
+            uint8_t was = bytes[lengths[at]];
+            bytes[lengths[at]] = (uint8_t)length;
+            EXPECT(dia_avps(&dict, bytes, sizeof bytes, avps, 4, &count, &bad, &verdict) == DIA_OK && count <= 4);
+            for (size_t i = 0; i < count; i++) {
+                EXPECT(dia_avps_at(&dict, bytes, sizeof bytes, avps[i].place, around, 4, &deep, &verdict) == DIA_OK);
+                EXPECT(deep > avps[i].depth && memcmp(&around[avps[i].depth], &avps[i], sizeof *avps) == 0);
+            }
+            bytes[lengths[at]] = was;
+        }
+    }
+    dia_dict_close(&dict);
+}
+
+static void first_avps_are_found(void) {
+    uint8_t bytes[sizeof grouped + 24 + 24 + 20];
+    dia_dict dict = DIA_DICT_INIT;
+    dia_avp found, all[6];
+    dia_verdict verdict = untouched;
+    size_t count = 99, bad = 99;
+    memcpy(bytes, grouped, sizeof grouped);
+    memcpy(bytes + 52, watchdog + 20, 24); /* Origin-Host, twice */
+    memcpy(bytes + 76, watchdog + 20, 24);
+    /* Auth-Application-Id, with the Vendor-ID 0, and then its first 4 bytes again */
+    memcpy(bytes + 100, (const uint8_t[20]){0, 0, 1, 2, 0x80, 0, 0, 16, 0, 0, 0, 0, 1, 0, 0, 0x23, 0, 0, 1, 2}, 20);
+    bytes[3] = sizeof bytes;
+    memset(&found, FILLING, sizeof found);
+    EXPECT(dia_avp_find(&dict, bytes, sizeof bytes, 264, 0, &found, &verdict) == DIA_IS_CLOSED);
+    EXPECT(dia_dict_open_base(&dict) == DIA_OK);
+    EXPECT(dia_avp_find(&dict, bytes, sizeof bytes - 1, 264, 0, &found, &verdict) == DIA_REFUSED);
+    EXPECT(verdict.outcome == DIA_TRUNCATED);
+    verdict = untouched;
+    /* Vendor-Id is in the group alone; no AVP has 9999; Origin-Host has no vendor; Origin-Realm is not there */
+    EXPECT(dia_avp_find(&dict, bytes, sizeof bytes, 266, 0, &found, &verdict) == DIA_NONE);
+    EXPECT(dia_avp_find(&dict, bytes, sizeof bytes, 9999, 0, &found, &verdict) == DIA_NONE);
+    EXPECT(dia_avp_find(&dict, bytes, sizeof bytes, 264, 10415, &found, &verdict) == DIA_NONE);
+    EXPECT(dia_avp_find(&dict, bytes, sizeof bytes, 296, 0, &found, &verdict) == DIA_NONE);
+    EXPECT(is_left((const uint8_t *)&found, sizeof found));
+    EXPECT(dia_avps(&dict, bytes, sizeof bytes, all, 6, &count, &bad, &verdict) == DIA_OK && count == 6 && bad == 116);
+    EXPECT(dia_avp_find(&dict, bytes, sizeof bytes, 260, 0, &found, &verdict) == DIA_OK && memcmp(&found, &all[0], sizeof found) == 0);
+    EXPECT(dia_avp_find(&dict, bytes, sizeof bytes, 264, 0, &found, &verdict) == DIA_OK && memcmp(&found, &all[3], sizeof found) == 0);
+    EXPECT(found.place == 52);
+    /* the one in the group comes first, and is passed over */
+    EXPECT(dia_avp_find(&dict, bytes, sizeof bytes, 258, 0, &found, &verdict) == DIA_OK && memcmp(&found, &all[5], sizeof found) == 0);
+    EXPECT(found.place == 100 && found.data_place == 112 && found.vendor == 0 && found.format == DIA_F_UNSIGNED32);
+    bytes[47] = 7; /* what is wrong in the group hides nothing after it */
+    EXPECT(dia_avp_find(&dict, bytes, sizeof bytes, 264, 0, &found, &verdict) == DIA_OK && found.place == 52);
+    bytes[59] = 7; /* but in the body it ends what is read */
+    EXPECT(dia_avp_find(&dict, bytes, sizeof bytes, 264, 0, &found, &verdict) == DIA_NONE);
+    EXPECT(dia_avp_find(&dict, bytes, sizeof bytes, 258, 0, &found, &verdict) == DIA_NONE);
+    EXPECT(dia_avp_find(&dict, bytes, sizeof bytes, 260, 0, &found, &verdict) == DIA_OK && found.place == 20);
+    EXPECT(dia_avp_find(&dict, NULL, 0, 264, 0, &found, &verdict) == DIA_REFUSED && verdict.outcome == DIA_TRUNCATED);
     dia_dict_close(&dict);
 }
 
@@ -189,9 +268,9 @@ static void unknown_groups_are_data(void) {
     dia_problem problem;
     dia_avp avp;
     dia_verdict verdict = untouched;
-    size_t count = 99, end = 99;
+    size_t count = 99, bad = 99;
     EXPECT(open_text(one_avp, &dict, &problem) == DIA_OK);
-    EXPECT(dia_avps(&dict, grouped, sizeof grouped, &avp, 1, &count, &end, &verdict) == DIA_OK && count == 1 && end == 52);
+    EXPECT(dia_avps(&dict, grouped, sizeof grouped, &avp, 1, &count, &bad, &verdict) == DIA_OK && count == 1 && bad == 52);
     EXPECT(avp.code == 260 && avp.data_place == 28 && avp.data_length == 24 && avp.format == DIA_F_UNKNOWN);
     dia_dict_close(&dict);
 }
@@ -244,7 +323,7 @@ static void nulls_are_no_bytes(void) {
     dia_problem problem;
     dia_verdict verdict = untouched;
     dia_head head;
-    size_t count = 99, end = 99;
+    size_t count = 99, bad = 99;
     uint32_t number = 99;
     EXPECT(dia_dict_open_base(&dict) == DIA_OK && dia_dict_open(NULL, 0, &empty, &problem) == DIA_OK);
     EXPECT(dia_faults_open(NULL, 0, &faults, &count) == DIA_OK && count == 0);
@@ -254,8 +333,8 @@ static void nulls_are_no_bytes(void) {
     EXPECT(dia_check_many(&dict, DIA_KEPT, 0, NULL, 0, NULL, 0, NULL, 0) == DIA_OK);
     EXPECT(dia_message_length(NULL, 0, &number, &verdict) == DIA_REFUSED && number == 99);
     EXPECT(dia_header(NULL, 0, &head, &verdict) == DIA_REFUSED && verdict.outcome == DIA_TRUNCATED);
-    EXPECT(dia_avps(&dict, grouped, sizeof grouped, NULL, 0, &count, &end, &verdict) == DIA_NO_ROOM && count == 3 && end == 52);
-    EXPECT(dia_avps(&dict, NULL, 0, NULL, 0, &count, &end, &verdict) == DIA_REFUSED && verdict.outcome == DIA_TRUNCATED);
+    EXPECT(dia_avps(&dict, grouped, sizeof grouped, NULL, 0, &count, &bad, &verdict) == DIA_NO_ROOM && count == 3 && bad == 52);
+    EXPECT(dia_avps(&dict, NULL, 0, NULL, 0, &count, &bad, &verdict) == DIA_REFUSED && verdict.outcome == DIA_TRUNCATED);
     EXPECT(dia_show(&dict, NULL, 0, &text, &number, &verdict) == DIA_REFUSED && verdict.outcome == DIA_TRUNCATED);
     EXPECT(dia_render(NULL, 0, &text, &problem) == DIA_OK && dia_text_read(&text, 0, NULL, 0, &count) == DIA_OK && count == 0);
     dia_text_close(&text);
@@ -310,6 +389,8 @@ int main(void) {
     verdicts_have_lines();
     avps_are_delivered();
     avps_follow_groups();
+    both_lists_agree();
+    first_avps_are_found();
     unknown_groups_are_data();
     many_are_checked();
     nulls_are_no_bytes();

@@ -123,14 +123,14 @@ static dia_status replies(void) {
 static dia_status says(void) {
     uint8_t said[DIA_MAX_LINE];
     size_t count;
-    static const dia_verdict truncated = {DIA_TRUNCATED, 0, 0, 0, 0, 0, 0, 0};
+    static const dia_verdict truncated = {DIA_TRUNCATED, 0, 0, 0, 0, 0, 0, 0, {0}};
     return dia_verdict_text(&dict, &truncated, said, sizeof said, &count);
 }
 
 static dia_status delivers(void) {
     dia_avp avps[3];
-    size_t count, end;
-    return dia_avps(&dict, grouped, sizeof grouped, avps, 3, &count, &end, &verdict);
+    size_t count, bad;
+    return dia_avps(&dict, grouped, sizeof grouped, avps, 3, &count, &bad, &verdict);
 }
 
 static dia_status checks_many(void) {
@@ -170,7 +170,7 @@ static dia_status begins_again(void) {
     if (status != DIA_OK) {
         EXPECT(dia_stream_feed(&stream, watchdog, sizeof watchdog, &fed) == DIA_OK && fed.done == 1);
         EXPECT(dia_stream_again(&stream, &verdict) == DIA_OK && verdict.outcome == DIA_VALID);
-        verdict = (dia_verdict){9, 9, 9, 9, 9, 9, 9, 9};
+        verdict = (dia_verdict){9, 9, 9, 9, 9, 9, 9, 9, {9, 9, 9, 9}};
     }
     dia_stream_close(&stream);
     return status;
@@ -231,7 +231,7 @@ static void close_nothing(void) {
 
 /* Refuses the first, the second and so on, until all is given; at least `least` calls answered DIA_NO_MEMORY. */
 static void refuse_each(const char *name, dia_status (*call)(void), void (*undo)(void), long least) {
-    static const dia_verdict untouched = {9, 9, 9, 9, 9, 9, 9, 9};
+    static const dia_verdict untouched = {9, 9, 9, 9, 9, 9, 9, 9, {9, 9, 9, 9}};
     long refused = 0, without = 0, had = blocks;
     dia_dict dict_before = dict, other_before = other;
     dia_text text_before = text, line_before = line;
@@ -288,6 +288,7 @@ static void take_no_memory(void) {
     EXPECT(dia_dict_commands(&dict, &count) == DIA_OK && dia_dict_command(&dict, count - 1, &command) == DIA_OK);
     EXPECT(dia_dict_avps(&dict, &count) == DIA_OK && dia_dict_avp(&dict, count - 1, &entry) == DIA_OK);
     EXPECT(dia_avps_at(&dict, grouped, sizeof grouped, 28, avps, 2, &count, &told) == DIA_OK && count == 2);
+    EXPECT(dia_avp_find(&dict, grouped, sizeof grouped, 260, 0, avps, &told) == DIA_OK && avps[0].place == 20);
     EXPECT(dia_text_length(&text, &count) == DIA_OK);
     EXPECT(dia_text_view(&text, &bytes, &count) == DIA_OK && bytes != NULL);
     EXPECT(dia_text_read(&text, 0, name, sizeof name, &count) == DIA_OK);

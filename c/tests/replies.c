@@ -40,7 +40,7 @@ static const uint8_t answer_to_unanswerable[] = {
     0x20, 0x53, 0x65, 0x73, 0x73, 0x69, 0x6f, 0x6e, 0x2d, 0x49, 0x64, 0x00, 0x00, 0x00, 0x01, 0x17, 0x40, 0x00, 0x00, 0x10,
     0x00, 0x00, 0x01, 0x07, 0x40, 0x00, 0x00, 0x08};
 
-static const dia_verdict untouched = {99, 99, 99, 99, 99, 99, 99, 99};
+static const dia_verdict untouched = {99, 99, 99, 99, 99, 99, 99, 99, {99, 99, 99, 99}};
 static const char host[] = "host.invalid", realm[] = "invalid";
 
 static dia_status answer(dia_dict *dict, const uint8_t *message, size_t len, dia_text *bytes, uint32_t *form, dia_verdict *v) {

@@ -95,7 +95,7 @@ static void handles_are_asked(void) {
     dia_dict closed = DIA_DICT_INIT, other = DIA_DICT_INIT;
     dia_stream stream = DIA_STREAM_INIT;
     dia_fed fed = {99, 99};
-    dia_verdict verdict = {99, 99, 99, 99, 99, 99, 99, 99};
+    dia_verdict verdict = {99, 99, 99, 99, 99, 99, 99, 99, {99, 99, 99, 99}};
     EXPECT(dia_stream_open(&closed, DIA_KEPT, DIA_ANY_LEVELS, &stream) == DIA_IS_CLOSED);
     EXPECT(dia_stream_open(&dict, 2, DIA_ANY_LEVELS, &stream) == DIA_BAD_ARGUMENT);
     EXPECT(dia_stream_feed(&stream, watchdog, 20, &fed) == DIA_IS_CLOSED && fed.taken == 99 && fed.done == 99);
@@ -126,7 +126,7 @@ static void streams_begin_again(void) {
     dia_stream stream = DIA_STREAM_INIT;
     dia_dict own = DIA_DICT_INIT;
     dia_fed fed;
-    dia_verdict verdict = {99, 99, 99, 99, 99, 99, 99, 99}, whole;
+    dia_verdict verdict = {99, 99, 99, 99, 99, 99, 99, 99, {99, 99, 99, 99}}, whole;
     size_t levels = 99;
     EXPECT(dia_stream_again(&stream, &verdict) == DIA_IS_CLOSED && verdict.outcome == 99);
     EXPECT(dia_dict_open_base(&own) == DIA_OK);

@@ -20,7 +20,7 @@ static void messages_are_shown(void) {
     uint8_t bytes[sizeof watchdog];
     dia_dict dict = DIA_DICT_INIT;
     dia_text text = DIA_TEXT_INIT;
-    dia_verdict verdict = {99, 99, 99, 99, 99, 99, 99, 99};
+    dia_verdict verdict = {99, 99, 99, 99, 99, 99, 99, 99, {99, 99, 99, 99}};
     uint32_t whole = 99;
     EXPECT(dia_show(&dict, watchdog, sizeof watchdog, &text, &whole, &verdict) == DIA_IS_CLOSED);
     EXPECT(dia_dict_open_base(&dict) == DIA_OK);

@@ -100,7 +100,7 @@ func Compare(a, b *Dictionary, unknown Unknown, table string) (holds bool, line 
 		defer C.dia_text_close(&answer)
 		return isYes == 1, strings.TrimSuffix(textOf(&answer), "\n"), nil
 	case C.DIA_REFUSED:
-		return false, "", inputError(&problem)
+		return false, "", tableError(&problem, start, count)
 	default:
 		return false, "", problemOf(status)
 	}

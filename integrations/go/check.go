@@ -84,7 +84,7 @@ func (d *Dictionary) Check(message []byte, unknown Unknown) (Verdict, error) {
 	if d.handle == nil {
 		return Verdict{}, ErrClosed
 	}
-	status := C.dia_check(d.handle, C.uint32_t(unknown), C.DIA_ANY_LEVELS, first, count, &verdict)
+	status := C.dia_check(d.handle, C.uint32_t(unknown), d.levels, first, count, &verdict)
 	runtime.KeepAlive(message)
 	if status != C.DIA_OK {
 		return Verdict{}, problemOf(status)
@@ -106,7 +106,7 @@ func (d *Dictionary) CheckMany(all []byte, ends []uint, unknown Unknown) ([]Verd
 		return nil, ErrClosed
 	}
 	// size_t is Go's uint on the machines of this package
-	status := C.dia_check_many(d.handle, C.uint32_t(unknown), C.DIA_ANY_LEVELS, first, count, (*C.size_t)(unsafe.Pointer(&ends[0])),
+	status := C.dia_check_many(d.handle, C.uint32_t(unknown), d.levels, first, count, (*C.size_t)(unsafe.Pointer(&ends[0])),
 		C.size_t(len(ends)), &found[0], C.size_t(len(found)))
 	runtime.KeepAlive(all)
 	if status != C.DIA_OK {
@@ -128,7 +128,7 @@ func (d *Dictionary) CheckJSON(message []byte, unknown Unknown) ([]byte, error) 
 	if d.handle == nil {
 		return nil, ErrClosed
 	}
-	if status := C.dia_check_json(d.handle, C.uint32_t(unknown), C.DIA_ANY_LEVELS, first, count, &line); status != C.DIA_OK {
+	if status := C.dia_check_json(d.handle, C.uint32_t(unknown), d.levels, first, count, &line); status != C.DIA_OK {
 		return nil, problemOf(status)
 	}
 	defer C.dia_text_close(&line)
@@ -137,8 +137,9 @@ func (d *Dictionary) CheckJSON(message []byte, unknown Unknown) ([]byte, error) 
 
 // Describe is the line that `diacmd check` writes of a verdict of this dictionary.
 func (d *Dictionary) Describe(v Verdict) (string, error) {
-	verdict := C.dia_verdict{C.uint32_t(v.Outcome), C.uint32_t(v.Command), C.uint32_t(v.Code), C.uint32_t(v.Place), C.uint32_t(v.Reason),
-		C.uint32_t(v.Subject), C.uint32_t(v.AVPCode), C.uint32_t(v.AVPVendor)}
+	verdict := C.dia_verdict{outcome: C.uint32_t(v.Outcome), command: C.uint32_t(v.Command), code: C.uint32_t(v.Code),
+		place: C.uint32_t(v.Place), reason: C.uint32_t(v.Reason), subject: C.uint32_t(v.Subject), avp_code: C.uint32_t(v.AVPCode),
+		avp_vendor: C.uint32_t(v.AVPVendor)}
 	var out [C.DIA_MAX_LINE]byte
 	var count C.size_t
 	d.lock.Lock()
@@ -167,7 +168,7 @@ func (d *Dictionary) Answer(message []byte, host, realm string, unknown Unknown)
 	if d.handle == nil {
 		return nil, Verdict{}, ErrClosed
 	}
-	status := C.dia_answer(d.handle, C.uint32_t(unknown), C.DIA_ANY_LEVELS, hostFirst, hostCount, realmFirst, realmCount, first, count, &made,
+	status := C.dia_answer(d.handle, C.uint32_t(unknown), d.levels, hostFirst, hostCount, realmFirst, realmCount, first, count, &made,
 		&form, &verdict)
 	runtime.KeepAlive(message)
 	switch status {

@@ -114,6 +114,27 @@ func TestUnknown(t *testing.T) {
 	}
 }
 
+func TestLevels(t *testing.T) {
+	d := made(t, "G ::= < AVP Header: 3 > *[ AVP ]\n<Any> ::= < Diameter Header: 302, REQ > *[ G ]")
+	// a group of 8 bytes in a group of 16
+	message := unhex("010000248000012e000000000000000000000000" + "0000000300000010" + "0000000300000008")
+	for levels, wanted := range map[uint32]string{1: "fault 5012 at 28 depth G", 2: "valid Any"} {
+		limited, err := d.WithLevels(levels)
+		if err != nil {
+			t.Fatal(err)
+		}
+		if found := lineOf(t, limited, message); found != wanted {
+			t.Error(levels, found)
+		}
+		if shared, err := limited.Share(); err != nil || lineOf(t, shared, message) != wanted {
+			t.Error(levels, err)
+		}
+	}
+	if found := lineOf(t, d, message); found != "valid Any" {
+		t.Error(found)
+	}
+}
+
 func TestMany(t *testing.T) {
 	d := base(t)
 	all := bytes.Join([][]byte{watchdog, bare, watchdog}, nil)
@@ -201,7 +222,7 @@ func TestCompare(t *testing.T) {
 		t.Error(holds, line, err)
 	}
 	var refused *InputError
-	if _, _, err := Compare(ours, theirs, Kept, "\nx"); !errors.As(err, &refused) || *refused != (InputError{Syntax, 2}) {
+	if _, _, err := Compare(ours, theirs, Kept, "\nx"); !errors.As(err, &refused) || *refused != (InputError{Syntax, 2, 1}) || err.Error() != "dia: 2:1: syntax" {
 		t.Error(err)
 	}
 }
@@ -245,6 +266,19 @@ func TestSplit(t *testing.T) {
 	}
 	if _, err := MessageLength(watchdog[1:]); err != ErrMessage {
 		t.Error(err)
+	}
+}
+
+func TestHeader(t *testing.T) {
+	// a CCR of RFC 8506: R and P are set
+	h, err := ReadHeader(unhex("0100002cc0000110000000040000000500000006"))
+	if err != nil || h != (Header{44, 0xc0, 272, 4, 5, 6}) || !h.IsRequest() || !h.IsProxiable() || h.IsError() {
+		t.Error(h, err)
+	}
+	for _, wrong := range [][]byte{nil, watchdog[:19], watchdog[1:]} {
+		if h, err := ReadHeader(wrong); err != ErrMessage {
+			t.Error(h, err)
+		}
 	}
 }
 
@@ -316,6 +350,15 @@ func TestPeers(t *testing.T) {
 	}
 }
 
+func TestNames(t *testing.T) {
+	for name, found := range map[string]string{"OPEN": Open.String(), "CLOSED": Closed.String(), "STOPPED": WhyStopped.String(),
+		"INVALID": WhyInvalid.String(), "ANOTHER_9": State(9).String()} {
+		if name != found {
+			t.Error(name, found)
+		}
+	}
+}
+
 func TestRefusedConfigs(t *testing.T) {
 	apps := []Application{{ID: 4}}
 	for field, config := range map[string]Config{
@@ -361,7 +404,7 @@ func TestBreaking(t *testing.T) {
 	}
 	var refused *InputError
 	_, _, err := Breaking(ours, theirs, Question{Sends: SendsListed, Commands: []string{"Report", "Other"}})
-	if !errors.As(err, &refused) || *refused != (InputError{NoCommand, 2}) || err.Error() != "dia: line 2: no command" {
+	if !errors.As(err, &refused) || *refused != (InputError{NoCommand, 2, 0}) || err.Error() != "dia: line 2: no command" {
 		t.Error(err)
 	}
 	if _, _, err := Breaking(ours, theirs, Question{Sends: SendsListed, Accepted: "x\n"}); !errors.As(err, &refused) || refused.Kind != Syntax {
@@ -450,6 +493,39 @@ func TestParts(t *testing.T) {
 	}
 }
 
+func TestFormats(t *testing.T) {
+	// each format is that of the AVP which a dictionary declares with its word
+	for f := OctetString; f <= QoSFilterRule; f++ {
+		text := "%avp A 1 " + f.String() + " any"
+		if f == Grouped {
+			text += "\nA ::= < AVP Header: 1 > *[ AVP ]"
+		}
+		if entries, err := made(t, text).Entries(); err != nil || len(entries) != 1 || entries[0].Format != f {
+			t.Error(f, entries, err)
+		}
+	}
+	if Format(99).String() != "another" {
+		t.Error(Format(99))
+	}
+}
+
+func TestShow(t *testing.T) {
+	d := made(t, usage+"{ Usage }")
+	lines, whole, err := d.Show(twice)
+	if err != nil || !whole || !bytes.Contains([]byte(lines), []byte("Usage 1")) {
+		t.Error(lines, whole, err)
+	}
+	// the second AVP has an AVP Length of 7
+	cut := append([]byte{}, twice...)
+	cut[39] = 7
+	if lines, whole, err := d.Show(cut); err != nil || whole {
+		t.Error(lines, whole, err)
+	}
+	if _, _, err := d.Show(twice[1:]); err != ErrMessage {
+		t.Error(err)
+	}
+}
+
 func TestAVPsAt(t *testing.T) {
 	d := made(t, "%avp A 1 OctetString any\nB ::= < AVP Header: 2 > *[ A ]")
 	// B at 20 has two A of 8 bytes, at 28 and 36
@@ -466,6 +542,31 @@ func TestAVPsAt(t *testing.T) {
 	}
 	if _, err := d.AVPsAt(message[1:], 20); err != ErrMessage {
 		t.Error(err)
+	}
+}
+
+func TestFindAVP(t *testing.T) {
+	d := made(t, "%avp A 1 OctetString any\n%avp C 1 vendor 10415 OctetString any\nB ::= < AVP Header: 2 > *[ A ]")
+	// B at 20 has an A of 8 bytes at 28; then follow C at 36, of 12 bytes, A at 48, of 9, and A at 60
+	message := unhex("010000448000012e000000000000000000000000" + "00000002000000100000000100000008" + "000000018000000c000028af" +
+		"0000000100000009ff000000" + "0000000100000008")
+	found, has, err := d.FindAVP(message, 1, 0)
+	if err != nil || !has || found != (MessageAVP{48, 0, 9, 56, 1, 1, 0, 0, OctetString, "A"}) {
+		t.Error(found, has, err)
+	}
+	if found, has, err := d.FindAVP(message, 1, 10415); err != nil || !has || found.Place != 36 {
+		t.Error(found, has, err)
+	}
+	if _, has, err := d.FindAVP(message, 3, 0); err != nil || has {
+		t.Error(has, err)
+	}
+	if _, _, err := d.FindAVP(message[1:], 1, 0); err != ErrMessage {
+		t.Error(err)
+	}
+	// the A in B has an AVP Length of 7: others follow B
+	message[35] = 7
+	if found, bad, err := d.AVPs(message); err != nil || len(found) != 4 || bad != 28 || found[1].Place != 36 {
+		t.Error(found, bad, err)
 	}
 }
 

@@ -31,6 +31,7 @@ var ErrClosed = errors.New("dia: it is closed")
 type Dictionary struct {
 	lock   sync.Mutex
 	handle *C.dia_dict // in memory of C, since a handle is used by pointer; nil once it is closed
+	levels C.uint32_t  // how many groups may be nested
 }
 
 func bytesOf(b []byte) (*C.uint8_t, C.size_t) {
@@ -51,7 +52,7 @@ func open(fill func(handle *C.dia_dict) C.dia_status) (*Dictionary, C.dia_status
 		C.free(unsafe.Pointer(handle))
 		return nil, status
 	}
-	made := &Dictionary{handle: handle}
+	made := &Dictionary{handle: handle, levels: C.DIA_ANY_LEVELS}
 	runtime.SetFinalizer(made, (*Dictionary).Close)
 	return made, status
 }
@@ -107,6 +108,18 @@ func (d *Dictionary) Share() (*Dictionary, error) {
 	if status != C.DIA_OK {
 		return nil, problemOf(status)
 	}
+	made.levels = d.levels
+	return made, nil
+}
+
+// WithLevels is as Share. For its checks, streams and answers so many groups may be nested, and a deeper one has a fault; else any number
+// may be.
+func (d *Dictionary) WithLevels(levels uint32) (*Dictionary, error) {
+	made, err := d.Share()
+	if err != nil {
+		return nil, err
+	}
+	made.levels = C.uint32_t(levels)
 	return made, nil
 }
 

@@ -74,22 +74,34 @@ func (e *DictionaryError) Error() string {
 	return fmt.Sprintf("dia: no dictionary: %s%s", e.Faults[0], more)
 }
 
-// An InputError says that a table, a list of accepted lines or the name of a command is refused. Line counts from 1; it is 0 where the
-// whole input has the fault. Of names of commands it is the number of the name.
+// An InputError says that a table, a list of accepted lines or the name of a command is refused. Line and Column count from 1. Line is 0
+// where the whole input has the fault; of names of commands it is the number of the name. Column is 0 but in a table.
 type InputError struct {
-	Kind Kind
-	Line uint64
+	Kind         Kind
+	Line, Column uint64
 }
 
 func (e *InputError) Error() string {
-	if e.Line == 0 {
+	switch {
+	case e.Line == 0:
 		return fmt.Sprintf("dia: %s", e.Kind)
+	case e.Column != 0:
+		return fmt.Sprintf("dia: %d:%d: %s", e.Line, e.Column, e.Kind)
 	}
 	return fmt.Sprintf("dia: line %d: %s", e.Line, e.Kind)
 }
 
 func inputError(problem *C.dia_problem) error {
-	return &InputError{Kind(problem.kind), uint64(problem.line)}
+	return &InputError{Kind: Kind(problem.kind), Line: uint64(problem.line)}
+}
+
+// tableError is the error of a table of pairs, with its column.
+func tableError(problem *C.dia_problem, table *C.uint8_t, length C.size_t) error {
+	var line, column C.size_t
+	if problem.line != 0 {
+		C.dia_line_column(table, length, C.dia_table_place(table, length, problem.kind, problem.line), &line, &column)
+	}
+	return &InputError{Kind(problem.kind), uint64(problem.line), uint64(column)}
 }
 
 // Faults are all faults of the text of a dictionary, in the order of docs/FAULTS.md; none where it is a dictionary. Each line is

@@ -44,6 +44,41 @@ const (
 	MandatoryMustNot Mandatory = C.DIA_MANDATORY_MUST_NOT
 )
 
+// A Format is a data format of docs/FORMATS.md.
+type Format uint32
+
+// The formats. NoFormat is that of an AVP that the dictionary doesn't have.
+const (
+	NoFormat         Format = C.DIA_F_UNKNOWN
+	OctetString      Format = C.DIA_F_OCTET_STRING
+	Integer32        Format = C.DIA_F_INTEGER32
+	Integer64        Format = C.DIA_F_INTEGER64
+	Unsigned32       Format = C.DIA_F_UNSIGNED32
+	Unsigned64       Format = C.DIA_F_UNSIGNED64
+	Float32          Format = C.DIA_F_FLOAT32
+	Float64          Format = C.DIA_F_FLOAT64
+	Grouped          Format = C.DIA_F_GROUPED
+	Address          Format = C.DIA_F_ADDRESS
+	Time             Format = C.DIA_F_TIME
+	UTF8String       Format = C.DIA_F_UTF8STRING
+	DiameterIdentity Format = C.DIA_F_DIAMETER_IDENTITY
+	DiameterURI      Format = C.DIA_F_DIAMETER_URI
+	Enumerated       Format = C.DIA_F_ENUMERATED
+	IPFilterRule     Format = C.DIA_F_IP_FILTER_RULE
+	QoSFilterRule    Format = C.DIA_F_QOS_FILTER_RULE
+)
+
+var formats = [...]string{"none", "OctetString", "Integer32", "Integer64", "Unsigned32", "Unsigned64", "Float32", "Float64", "Grouped",
+	"Address", "Time", "UTF8String", "DiameterIdentity", "DiameterURI", "Enumerated", "IPFilterRule", "QoSFilterRule"}
+
+// String is the word of the format in a dictionary.
+func (f Format) String() string {
+	if int(f) < len(formats) {
+		return formats[f]
+	}
+	return "another"
+}
+
 // A Command is a command of a dictionary (RFC 6733 section 3.2).
 type Command struct {
 	Name           string
@@ -59,7 +94,7 @@ type Command struct {
 type Entry struct {
 	Name         string
 	Code, Vendor uint32 // Vendor 0: none
-	Format       uint32 // a number DIA_F_.. of dia.h
+	Format       Format
 	Mandatory    Mandatory
 }
 
@@ -68,7 +103,7 @@ type MessageAVP struct {
 	Place, Depth, Length  uint
 	DataPlace, DataLength uint
 	Code, Vendor, Flags   uint32
-	Format                uint32 // a number DIA_F_.. of dia.h; 0 where the dictionary doesn't have the AVP
+	Format                Format // NoFormat where the dictionary doesn't have the AVP
 	Name                  string // and then it is ""
 }
 
@@ -114,7 +149,7 @@ func (d *Dictionary) Entries() ([]Entry, error) {
 			return nil, problemOf(status)
 		}
 		name := C.GoBytes(unsafe.Pointer(&raw.name[0]), C.int(raw.name_count))
-		found[i] = Entry{string(name), uint32(raw.code), uint32(raw.vendor), uint32(raw.format), Mandatory(raw.mandatory)}
+		found[i] = Entry{string(name), uint32(raw.code), uint32(raw.vendor), Format(raw.format), Mandatory(raw.mandatory)}
 	}
 	return found, nil
 }
@@ -152,9 +187,9 @@ func (d *Dictionary) AVPsAt(message []byte, offset uint) ([]MessageAVP, error) {
 }
 
 // AVPs are the AVPs of a message in the order of their bytes, each group that the dictionary has followed by its members. An AVP Length
-// that no AVP can have ends them, at the offset end; else end is the length of the message. The error is ErrMessage where the bytes are no
-// message.
-func (d *Dictionary) AVPs(message []byte) (avps []MessageAVP, end uint, err error) {
+// that no AVP can have ends its own level: bad is the offset of the first; else bad is the length of the message. The error is ErrMessage
+// where the bytes are no message.
+func (d *Dictionary) AVPs(message []byte) (avps []MessageAVP, bad uint, err error) {
 	first, length := bytesOf(message)
 	var verdict C.dia_verdict
 	d.lock.Lock()
@@ -164,15 +199,15 @@ func (d *Dictionary) AVPs(message []byte) (avps []MessageAVP, end uint, err erro
 	}
 	raws := make([]C.dia_avp, 32)
 	for {
-		var count, ended C.size_t
-		status := C.dia_avps(d.handle, first, length, &raws[0], C.size_t(len(raws)), &count, &ended, &verdict)
+		var count, place C.size_t
+		status := C.dia_avps(d.handle, first, length, &raws[0], C.size_t(len(raws)), &count, &place, &verdict)
 		switch status {
 		case C.DIA_OK:
 			found := make([]MessageAVP, count)
 			for i := range found {
 				found[i] = avpOf(&raws[i])
 			}
-			return found, uint(ended), nil
+			return found, uint(place), nil
 		case C.DIA_REFUSED:
 			return nil, 0, ErrMessage
 		case C.DIA_NO_ROOM:
@@ -183,10 +218,56 @@ func (d *Dictionary) AVPs(message []byte) (avps []MessageAVP, end uint, err erro
 	}
 }
 
+// FindAVP is the first AVP of a message that has this code and this vendor, 0 for none, and is in no group, and whether there is one. The
+// error is ErrMessage where the bytes are no message.
+func (d *Dictionary) FindAVP(message []byte, code, vendor uint32) (found MessageAVP, has bool, err error) {
+	first, length := bytesOf(message)
+	var raw C.dia_avp
+	var verdict C.dia_verdict
+	d.lock.Lock()
+	defer d.lock.Unlock()
+	if d.handle == nil {
+		return MessageAVP{}, false, ErrClosed
+	}
+	switch status := C.dia_avp_find(d.handle, first, length, C.uint32_t(code), C.uint32_t(vendor), &raw, &verdict); status {
+	case C.DIA_OK:
+		return avpOf(&raw), true, nil
+	case C.DIA_NONE:
+		return MessageAVP{}, false, nil
+	case C.DIA_REFUSED:
+		return MessageAVP{}, false, ErrMessage
+	default:
+		return MessageAVP{}, false, problemOf(status)
+	}
+}
+
 func avpOf(raw *C.dia_avp) MessageAVP {
 	name := C.GoBytes(unsafe.Pointer(&raw.name[0]), C.int(raw.name_count))
 	return MessageAVP{uint(raw.place), uint(raw.depth), uint(raw.length), uint(raw.data_place), uint(raw.data_length), uint32(raw.code),
-		uint32(raw.vendor), uint32(raw.flags), uint32(raw.format), string(name)}
+		uint32(raw.vendor), uint32(raw.flags), Format(raw.format), string(name)}
+}
+
+// Show is what `diacmd show` writes of a message, with the names of the dictionary. Whole is false where an AVP Length that no AVP can have
+// ends the lines. The error is ErrMessage where the bytes are no message.
+func (d *Dictionary) Show(message []byte) (lines string, whole bool, err error) {
+	first, length := bytesOf(message)
+	var text C.dia_text
+	var all C.uint32_t
+	var verdict C.dia_verdict
+	d.lock.Lock()
+	defer d.lock.Unlock()
+	if d.handle == nil {
+		return "", false, ErrClosed
+	}
+	switch status := C.dia_show(d.handle, first, length, &text, &all, &verdict); status {
+	case C.DIA_OK:
+		defer C.dia_text_close(&text)
+		return textOf(&text), all == 1, nil
+	case C.DIA_REFUSED:
+		return "", false, ErrMessage
+	default:
+		return "", false, problemOf(status)
+	}
 }
 
 // Explain is what `diacmd check` writes on standard error for a message, with the dictionary of this text: for people. It is "" for a

@@ -43,6 +43,11 @@ const (
 	Closed  State = C.DIA_STATE_CLOSED
 )
 
+var states = [...]string{"IDLE", "WAIT_CEA", "WAIT_CER", "OPEN", "WAIT_DPA", "CLOSED"}
+
+// String is the name of the state, as dia.h has it.
+func (s State) String() string { return nameOf(states[:], uint32(s)) }
+
 // A Cause is a value of Disconnect-Cause (RFC 6733 section 5.4.3).
 type Cause uint32
 
@@ -66,6 +71,19 @@ const (
 	WhyPeerStopped Why = C.DIA_WHY_PEER_STOPPED
 	WhyStopped     Why = C.DIA_WHY_STOPPED
 )
+
+var whys = [...]string{"INVALID", "NO_COMMON", "REFUSED", "WATCHDOG", "TIMEOUT", "PEER_STOPPED", "STOPPED"}
+
+// String is the name of the reason, as dia.h has it.
+func (w Why) String() string { return nameOf(whys[:], uint32(w)) }
+
+// nameOf is the name of a number, which a later library may have more of.
+func nameOf(names []string, number uint32) string {
+	if number < uint32(len(names)) {
+		return names[number]
+	}
+	return fmt.Sprintf("ANOTHER_%d", number)
+}
 
 // A Timer is what the timer of a connection does after an event.
 type Timer uint32
@@ -139,7 +157,8 @@ func NewPeer(role Role, config Config) (*Peer, error) {
 	}
 	apps := make([]C.dia_app, len(config.Applications)+1)
 	for i, app := range config.Applications {
-		apps[i] = C.dia_app{number(app.Accounting), C.uint32_t(app.ID), number(app.HasVendor), C.uint32_t(app.Vendor)}
+		apps[i] = C.dia_app{is_acct: number(app.Accounting), id: C.uint32_t(app.ID), has_vendor: number(app.HasVendor),
+			vendor: C.uint32_t(app.Vendor)}
 	}
 	manner := number(config.Relays)*C.DIA_MANNER_RELAYS | number(config.Answers)*C.DIA_MANNER_ANSWERS |
 		number(config.Life)*C.DIA_MANNER_LIFE | number(config.Values)*C.DIA_MANNER_VALUES

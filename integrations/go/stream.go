@@ -33,7 +33,7 @@ func (d *Dictionary) Stream(unknown Unknown) (*Stream, error) {
 	if handle == nil {
 		return nil, ErrMemory
 	}
-	if status := C.dia_stream_open(d.handle, C.uint32_t(unknown), C.DIA_ANY_LEVELS, handle); status != C.DIA_OK {
+	if status := C.dia_stream_open(d.handle, C.uint32_t(unknown), d.levels, handle); status != C.DIA_OK {
 		C.free(unsafe.Pointer(handle))
 		return nil, problemOf(status)
 	}
@@ -96,6 +96,35 @@ func streamProblem(status C.dia_status) error {
 		return ErrSpent
 	}
 	return problemOf(status)
+}
+
+// A Header has the fields of a message's header (RFC 6733 section 3).
+type Header struct {
+	Length             uint32 // Message Length
+	Flags              uint32 // Command Flags, 8 bits
+	Code               uint32 // Command Code
+	Application        uint32 // Application-ID
+	HopByHop, EndToEnd uint32
+}
+
+// IsRequest is whether the R flag is set.
+func (h Header) IsRequest() bool { return h.Flags&0x80 != 0 }
+
+// IsProxiable is whether the P flag is set.
+func (h Header) IsProxiable() bool { return h.Flags&0x40 != 0 }
+
+// IsError is whether the E flag is set.
+func (h Header) IsError() bool { return h.Flags&0x20 != 0 }
+
+// ReadHeader is the header with which the bytes begin, at least 20. The error is ErrMessage where no message begins so.
+func ReadHeader(data []byte) (Header, error) {
+	first, count := bytesOf(data)
+	var raw C.dia_head
+	var verdict C.dia_verdict
+	if C.dia_header(first, count, &raw, &verdict) != C.DIA_OK {
+		return Header{}, ErrMessage
+	}
+	return Header{uint32(raw.length), uint32(raw.flags), uint32(raw.code), uint32(raw.app), uint32(raw.hop), uint32(raw.e2e)}, nil
 }
 
 // MessageLength is how many bytes the message has that begins with these, at least 20 (RFC 6733 section 3). The error is ErrMessage where

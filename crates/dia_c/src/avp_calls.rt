@@ -2,11 +2,14 @@
 
 ghost use Rattle.std.specs.Prelude.{◌⊎◌, ◌≡◌, ◌≢◌, ◌≤◌, ◌<◌, IfSome, IsSome, None, length};
 ghost use Rattle.dia_c_calls.specs.Avps.{AreListed};
+ghost use Rattle.dia_c_calls.specs.FirstAvps.{HasNoneIn, IsFirstIn};
 ghost use Rattle.dia_c_calls.specs.Held.{dict_in};
 ghost use Rattle.dia_c_calls.specs.HeldOffsets.{AreFoundAt};
 ghost use Rattle.dia_c_calls.specs.Verdicts.{IsNoMessage};
 
-use dia_c_calls::{DONE, DictHandle, IS_CLOSED, MessageAvp, NO_MEMORY, NO_ROOM, REFUSED, Verdict};
+use dia_c_calls::{
+    DONE, DictHandle, IS_CLOSED, MessageAvp, NO_MEMORY, NO_ROOM, NONE, REFUSED, Verdict,
+};
 use std::alloc::Global;
 
 /// The AVPs of a message, with what the dictionary has of them.
@@ -17,23 +20,23 @@ pub extern "C" fn dia_avps(
     message: &[u8],
     avps: &mut [MessageAvp],
     count: &mut usize,
-    end: &mut usize,
+    bad: &mut usize,
     verdict: &mut Verdict,
 ) -> u32
     ensures ends { (result ≡ DONE) ⊎ (result ≡ REFUSED) ⊎ (result ≡ NO_MEMORY) ⊎ (result ≡ NO_ROOM) ⊎ (result ≡ IS_CLOSED) }
     ensures kept { handle.new.slot.seal.held ≡ handle.old.slot.seal.held }
     ensures listed { (result ≡ DONE) ⊎ (result ≡ NO_ROOM) → IfSome (dict_in handle.old.slot.seal.held)
-        (λ d. AreListed d message.now avps.old avps.new count.new end.new) }
+        (λ d. AreListed d message.now avps.old avps.new count.new bad.new) }
     ensures refused { result ≡ REFUSED → IsNoMessage message.now verdict.new }
     ensures fits { result ≡ DONE → count.new ≤ length avps.old }
     ensures room { result ≡ NO_ROOM → length avps.old < count.new }
     ensures untouched { (result ≡ REFUSED) ⊎ (result ≡ IS_CLOSED) → avps.new ≡ avps.old }
-    ensures only_count { result ≢ DONE → result ≢ NO_ROOM → (count.new ≡ count.old) × (end.new ≡ end.old) }
+    ensures only_count { result ≢ DONE → result ≢ NO_ROOM → (count.new ≡ count.old) × (bad.new ≡ bad.old) }
     ensures only { result ≢ REFUSED → verdict.new ≡ verdict.old }
     ensures closed { result ≡ IS_CLOSED → handle.old.slot.seal.held ≡ None }
     ensures dict_is_open { result ≢ IS_CLOSED → IsSome (dict_in handle.old.slot.seal.held) }
 {
-    dia_c_calls::avps(alloc, handle, message, avps, count, end, verdict)
+    dia_c_calls::avps(alloc, handle, message, avps, count, bad, verdict)
 }
 
 /// The AVPs of a message that hold the byte at an offset, the outermost first: the groups around an AVP, and the AVP.
@@ -61,4 +64,30 @@ pub extern "C" fn dia_avps_at(
     ensures dict_is_open { result ≢ IS_CLOSED → IsSome (dict_in handle.old.slot.seal.held) }
 {
     dia_c_calls::avps_at(alloc, handle, message, offset, avps, count, verdict)
+}
+
+/// The first AVP of a message that has this code and this vendor, 0 for none, and is in no group.
+#[unsafe(no_mangle)]
+pub extern "C" fn dia_avp_find(
+    alloc: Global,
+    handle: &mut DictHandle,
+    message: &[u8],
+    code: u32,
+    vendor: u32,
+    avp: &mut MessageAvp,
+    verdict: &mut Verdict,
+) -> u32
+    ensures ends { (result ≡ DONE) ⊎ (result ≡ NONE) ⊎ (result ≡ REFUSED) ⊎ (result ≡ IS_CLOSED) }
+    ensures kept { handle.new.slot.seal.held ≡ handle.old.slot.seal.held }
+    ensures found { result ≡ DONE → IfSome (dict_in handle.old.slot.seal.held)
+        (λ d. IsFirstIn d message.now code vendor avp.new) }
+    ensures none { result ≡ NONE → IfSome (dict_in handle.old.slot.seal.held)
+        (λ d. HasNoneIn d message.now code vendor) }
+    ensures refused { result ≡ REFUSED → IsNoMessage message.now verdict.new }
+    ensures untouched { result ≢ DONE → avp.new ≡ avp.old }
+    ensures only { result ≢ REFUSED → verdict.new ≡ verdict.old }
+    ensures closed { result ≡ IS_CLOSED → handle.old.slot.seal.held ≡ None }
+    ensures dict_is_open { result ≢ IS_CLOSED → IsSome (dict_in handle.old.slot.seal.held) }
+{
+    dia_c_calls::avp_find(alloc, handle, message, code, vendor, avp, verdict)
 }

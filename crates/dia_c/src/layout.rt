@@ -20,7 +20,7 @@ const _: () = prove!(size_of::<Problem>() == 12);
 
 const _: () = prove!(size_of::<RecordedFault>() == 296);
 
-const _: () = prove!(size_of::<Verdict>() == 32);
+const _: () = prove!(size_of::<Verdict>() == 48);
 
 const _: () = prove!(size_of::<PeerAddress>() == 20);
 
@@ -32,7 +32,7 @@ const _: () = prove!(size_of::<PeerOptions<'_>>() == 184);
 
 const _: () = prove!(size_of::<Fed>() == 16);
 
-const _: () = prove!(size_of::<MessageAvp>() == 192);
+const _: () = prove!(size_of::<MessageAvp>() == 224);
 
 const _: () = prove!(size_of::<MessageHead>() == 24);
 

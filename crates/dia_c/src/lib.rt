@@ -27,7 +27,7 @@ mod texts;
 mod upgrades;
 mod words;
 
-pub use avp_calls::{dia_avps, dia_avps_at};
+pub use avp_calls::{dia_avp_find, dia_avps, dia_avps_at};
 pub use batches::dia_check_many;
 pub use checks::{dia_check, dia_check_json, dia_message_length};
 pub use comparisons::{dia_compare, dia_table_place};

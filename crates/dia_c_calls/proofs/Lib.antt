@@ -4,6 +4,7 @@ pub mod ManyMessages
 pub mod ComparedHandles
 pub mod DictParts
 pub mod FedStreams
+pub mod FirstAvps
 pub mod HeldDicts
 pub mod ListedAvps
 pub mod Next

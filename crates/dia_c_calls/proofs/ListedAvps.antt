@@ -1,6 +1,7 @@
 -- The AVPs of a level and of the groups in it as they are listed, with the levels that are not done in a list, the outermost first.
-use Rattle.std.proofs.Common.{◌≡◌, ℕ, ◌+◌, ◌-◌, ◌*◌, ◌^◌, ◌<◌, ◌≤◌, Bool, true, false, List, [], ◌∷◌, ◌++◌, length, take, drop, set, get_or, refl, sym, ap, subst, ◌∙◌, append_assoc, arith, inl, inr}
-use Rattle.std.specs.Prelude.{◌⊎◌, sum_by}
+use Rattle.std.proofs.Common.{◌≡◌, ℕ, ◌+◌, ◌-◌, ◌*◌, ◌^◌, ◌<◌, ◌≤◌, true, false, List, [], ◌∷◌, ◌++◌, length, take, drop, set, get_or, Option, None, Some, refl, sym, ap, subst, ◌∙◌, append_assoc, arith, inl, inr}
+use Rattle.std.specs.Prelude.{sum_by, unwrap_or}
+use Rattle.std.specs.Option.{option_or}
 use Rattle.std.specs.List.{AllByRecursion}
 use Rattle.std.proofs.lemmas.Bool.{cases_lt}
 use Rattle.std.proofs.lemmas.List.{append-nil, drop_all, drop_more, length_push, nil_from_length, set_at, set_past, take_all, take-append-le, length-append, length-take, length-drop}
@@ -9,10 +10,10 @@ use Rattle.dia_wire.specs.declared.Header.{Header}
 use Rattle.dia_wire.specs.Wire.{PlainAvp, avp_length, head_length, padded_length, BeginsWith, BeginsWithNone, IsHead, IsMessageLength}
 use Rattle.dia_wire.proofs.Spelling.{at_least_8, opened, rounded-le}
 use Rattle.dia_book.specs.Dictionary.{Dictionary}
-use Rattle.dia_run.specs.Rows.{AreRows, Level, Row, after, bad_group, bad_length, command_name, end, group, inside, is_group, known_avp, leaf, of_bad_length, row_of}
+use Rattle.dia_run.specs.Rows.{Level, Row, after, inside, is_group, known_avp, of_bad_length, row_of}
 use Rattle.dia_c_calls.specs.declared.avp_list.Rest.{Rest}
 use Rattle.dia_c_calls.specs.declared.avp_records.MessageAvp.{MessageAvp}
-use Rattle.dia_c_calls.specs.Avps.{AreFirst, AreLevelListed, AreListed, avp_record, avps_of, end_of}
+use Rattle.dia_c_calls.specs.Avps.{AreAllRows, AreFirst, AreLevelListed, AreListed, avp_record, avps_of, bad_length, bad_of, end, group, leaf}
 
 -- ---- an array
 
@@ -65,12 +66,17 @@ avps_of-bad place (Row.of_avp at depth w known ∷ rows) = ap (λ (t : List Mess
 avps_of-bad place (Row.of_header h len command ∷ rows) = avps_of-bad place rows
 avps_of-bad place (of_bad_length at ∷ rows) = avps_of-bad place rows
 
--- none of the rows is a bad length: the end is that of what follows
-abbrev pub GoesOn : List Row → Type 0
-GoesOn rows = (n : ℕ) (more : List Row) → end_of n (rows ++ more) ≡ end_of n more
+bad_of-push : (d : Dictionary) (level : Level) (v : PlainAvp) (rows : List Row) → bad_of (rows ++ row_of d level v ∷ []) ≡ bad_of rows
+bad_of-push d level v [] = refl
+bad_of-push d level v (Row.of_avp place depth w known ∷ rows) = bad_of-push d level v rows
+bad_of-push d level v (Row.of_header h len command ∷ rows) = bad_of-push d level v rows
+bad_of-push d level v (of_bad_length place ∷ rows) = refl
 
-GoesOn-push : (d : Dictionary) (level : Level) (v : PlainAvp) (rows : List Row) → GoesOn rows → GoesOn (rows ++ row_of d level v ∷ [])
-GoesOn-push d level v rows on n more = ap (end_of n) (append_assoc rows (row_of d level v ∷ []) more) ∙ on n (row_of d level v ∷ more)
+bad_of-bad : (place : ℕ) (rows : List Row) → bad_of (rows ++ of_bad_length place ∷ []) ≡ option_or (bad_of rows) (Some place)
+bad_of-bad place [] = refl
+bad_of-bad place (Row.of_avp at depth w known ∷ rows) = bad_of-bad place rows
+bad_of-bad place (Row.of_header h len command ∷ rows) = bad_of-bad place rows
+bad_of-bad place (of_bad_length at ∷ rows) = refl
 
 -- ---- what is left of the levels
 
@@ -79,54 +85,38 @@ abbrev pub left_of : ℕ → Rest → Level
 left_of depth r = record { depth = depth; place = r.end - length r.bytes.now; bytes = r.bytes.now }
 
 -- the rows of a level, and then of what is left of the levels round it, which begin at a depth
-abbrev pub Owes : Dictionary → ℕ → List Rest → Level → List Row → Bool → Type 0
-Owes d depth [] level rows bad = AreRows d level rows bad
-Owes d depth (r ∷ rs) level rows bad =
-    ((inner : List Row) × (outer : List Row) × Owes d (depth + 1) rs level inner false × AreRows d (left_of depth r) outer bad × (rows ≡ inner ++ outer))
-    ⊎ (Owes d (depth + 1) rs level rows true × (bad ≡ true))
+abbrev pub Owes : Dictionary → ℕ → List Rest → Level → List Row → Type 0
+Owes d depth [] level rows = AreAllRows d level rows
+Owes d depth (r ∷ rs) level rows = (inner : List Row) × (outer : List Row) × Owes d (depth + 1) rs level inner × AreAllRows d (left_of depth r) outer × (rows ≡ inner ++ outer)
 
 -- what precedes the rows of a level precedes all
-Owes-front : (d : Dictionary) (depth : ℕ) (rs : List Rest) (level next : Level) (front : Row) (rows : List Row) (bad : Bool)
-    → ((t : List Row) (b : Bool) → AreRows d next t b → AreRows d level (front ∷ t) b) → Owes d depth rs next rows bad → Owes d depth rs level (front ∷ rows) bad
-Owes-front d depth [] level next front rows bad f h = f rows bad h
-Owes-front d depth (r ∷ rs) level next front rows bad f (inl (inner, outer, h, rest, parts)) =
-    inl (front ∷ inner, outer, Owes-front d (depth + 1) rs level next front inner false f h, rest, ap (λ (t : List Row). front ∷ t) parts)
-Owes-front d depth (r ∷ rs) level next front rows bad f (inr (h, is_bad)) = inr (Owes-front d (depth + 1) rs level next front rows true f h, is_bad)
+Owes-front : (d : Dictionary) (depth : ℕ) (rs : List Rest) (level next : Level) (front : Row) (rows : List Row)
+    → ((t : List Row) → AreAllRows d next t → AreAllRows d level (front ∷ t)) → Owes d depth rs next rows → Owes d depth rs level (front ∷ rows)
+Owes-front d depth [] level next front rows f h = f rows h
+Owes-front d depth (r ∷ rs) level next front rows f (inner, outer, h, rest, parts) =
+    (front ∷ inner, outer, Owes-front d (depth + 1) rs level next front inner f h, rest, ap (λ (t : List Row). front ∷ t) parts)
 
 -- a group that is entered: its members come first, and then what follows it
-Owes-group : (d : Dictionary) (depth : ℕ) (rs : List Rest) (r : Rest) (level : Level) (v : PlainAvp) (rest : List ℕ) (rows : List Row) (bad : Bool)
+Owes-group : (d : Dictionary) (depth : ℕ) (rs : List Rest) (r : Rest) (level : Level) (v : PlainAvp) (rest : List ℕ) (rows : List Row)
     → BeginsWith v level.bytes rest → is_group (known_avp d v) ≡ true
-    → left_of (depth + length rs) r ≡ after level v rest → Owes d depth (rs ++ r ∷ []) (inside level v) rows bad
-    → Owes d depth rs level (row_of d level v ∷ rows) bad
-Owes-group d depth [] r level v rest rows bad begins grouped is_after (inl (inner, outer, h, left, parts)) =
+    → left_of (depth + length rs) r ≡ after level v rest → Owes d depth (rs ++ r ∷ []) (inside level v) rows
+    → Owes d depth rs level (row_of d level v ∷ rows)
+Owes-group d depth [] r level v rest rows begins grouped is_after (inner, outer, h, left, parts) =
     let here : left_of depth r ≡ after level v rest = ap (λ (n : ℕ). left_of n r) (omega arith) ∙ is_after in
-    group v rest inner outer begins grouped h (subst (λ (l : Level). AreRows d l outer bad) here left) (ap (λ (t : List Row). row_of d level v ∷ t) parts)
-Owes-group d depth [] r level v rest rows bad begins grouped is_after (inr (h, is_bad)) = bad_group v rest rows begins grouped h refl is_bad
-Owes-group d depth (q ∷ rs) r level v rest rows bad begins grouped is_after (inl (inner, outer, h, left, parts)) =
+    group v rest inner outer begins grouped h (subst (λ (l : Level). AreAllRows d l outer) here left) (ap (λ (t : List Row). row_of d level v ∷ t) parts)
+Owes-group d depth (q ∷ rs) r level v rest rows begins grouped is_after (inner, outer, h, left, parts) =
     let here : left_of (depth + 1 + length rs) r ≡ after level v rest = ap (λ (n : ℕ). left_of n r) (omega arith) ∙ is_after in
-    inl (row_of d level v ∷ inner, outer, Owes-group d (depth + 1) rs r level v rest inner false begins grouped here h, left, ap (λ (t : List Row). row_of d level v ∷ t) parts)
-Owes-group d depth (q ∷ rs) r level v rest rows bad begins grouped is_after (inr (h, is_bad)) =
-    let here : left_of (depth + 1 + length rs) r ≡ after level v rest = ap (λ (n : ℕ). left_of n r) (omega arith) ∙ is_after in
-    inr (Owes-group d (depth + 1) rs r level v rest rows true begins grouped here h, is_bad)
+    (row_of d level v ∷ inner, outer, Owes-group d (depth + 1) rs r level v rest inner begins grouped here h, left, ap (λ (t : List Row). row_of d level v ∷ t) parts)
 
 -- a level that is done: what is left of the one round it comes next
-Owes-end : (d : Dictionary) (depth : ℕ) (rs : List Rest) (r : Rest) (level : Level) (rows : List Row) (bad : Bool) → level.bytes ≡ []
-    → Owes d depth rs (left_of (depth + length rs) r) rows bad → Owes d depth (rs ++ r ∷ []) level rows bad
-Owes-end d depth [] r level rows bad none h =
+Owes-end : (d : Dictionary) (depth : ℕ) (rs : List Rest) (r : Rest) (level : Level) (rows : List Row) → level.bytes ≡ []
+    → Owes d depth rs (left_of (depth + length rs) r) rows → Owes d depth (rs ++ r ∷ []) level rows
+Owes-end d depth [] r level rows none h =
     let same : depth + length {A = Rest} [] ≡ depth = omega arith in
-    inl ([], rows, end none refl refl, subst (λ (n : ℕ). AreRows d (left_of n r) rows bad) same h, refl)
-Owes-end d depth (q ∷ rs) r level rows bad none (inl (inner, outer, h, left, parts)) =
+    ([], rows, end none refl, subst (λ (n : ℕ). AreAllRows d (left_of n r) rows) same h, refl)
+Owes-end d depth (q ∷ rs) r level rows none (inner, outer, h, left, parts) =
     let same : depth + length (q ∷ rs) ≡ depth + 1 + length rs = omega arith in
-    inl (inner, outer, Owes-end d (depth + 1) rs r level inner false none (subst (λ (n : ℕ). Owes d (depth + 1) rs (left_of n r) inner false) same h), left, parts)
-Owes-end d depth (q ∷ rs) r level rows bad none (inr (h, is_bad)) =
-    let same : depth + length (q ∷ rs) ≡ depth + 1 + length rs = omega arith in
-    inr (Owes-end d (depth + 1) rs r level rows true none (subst (λ (n : ℕ). Owes d (depth + 1) rs (left_of n r) rows true) same h), is_bad)
-
--- a bad length ends it all
-Owes-bad : (d : Dictionary) (depth : ℕ) (rs : List Rest) (level : Level) → 0 < length level.bytes → BeginsWithNone level.bytes
-    → Owes d depth rs level (of_bad_length level.place ∷ []) true
-Owes-bad d depth [] level some none = bad_length some none refl refl
-Owes-bad d depth (r ∷ rs) level some none = inr (Owes-bad d (depth + 1) rs level some none, refl)
+    (inner, outer, Owes-end d (depth + 1) rs r level inner none (subst (λ (n : ℕ). Owes d (depth + 1) rs (left_of n r) inner) same h), left, parts)
 
 -- ---- bytes
 
@@ -147,6 +137,15 @@ room v level rest begins = omega (arith, length-level v level rest begins, round
 pub shorter : (v : PlainAvp) (level rest : List ℕ) → BeginsWith v level rest → length rest + length v.bytes < length level
 shorter v level rest begins = omega (arith, length-level v level rest begins, rounded-le (avp_length v), at_least_8 v.vendor)
 
+-- no bytes have no rows
+no_rows : (d : Dictionary) (level : Level) (rows : List Row) → level.bytes ≡ [] → AreAllRows d level rows → rows ≡ []
+no_rows d level rows none (end no_bytes is) = is
+no_rows d level rows none (bad_length some begins is) = let no_length : length level.bytes ≡ 0 = ap length none in absurd (omega (arith, some, no_length))
+no_rows d level rows none (leaf v rest more begins no_group h is) =
+    let no_length : length level.bytes ≡ 0 = ap length none in absurd (omega (arith, shorter v level.bytes rest begins, no_length))
+no_rows d level rows none (group v rest members more begins grouped h k is) =
+    let no_length : length level.bytes ≡ 0 = ap length none in absurd (omega (arith, shorter v level.bytes rest begins, no_length))
+
 pub less_after_avp : (v : PlainAvp) (level rest : List ℕ) (outer : List Rest) → BeginsWith v level rest → left_to_read rest outer < left_to_read level outer
 less_after_avp v level rest outer begins = omega (arith, shorter v level rest begins)
 
@@ -154,6 +153,9 @@ pub less_inside : (v : PlainAvp) (level : List ℕ) (next : Rest) (outer waiting
     → left_to_read v.bytes waiting < left_to_read level outer
 less_inside v level next outer waiting begins is =
     rw is (omega (arith, sum_by-append (λ (r : Rest). length r.bytes.now) outer (next ∷ []), shorter v level next.bytes.now begins, length-append outer (next ∷ [])))
+
+pub less_after_bad : (level : List ℕ) (outer : List Rest) → 0 < length level → left_to_read [] outer < left_to_read level outer
+less_after_bad level outer some = omega (arith, some)
 
 pub less_after_level : (level : List ℕ) (outer waiting : List Rest) (next : Rest) → outer ≡ waiting ++ next ∷ [] → left_to_read next.bytes.now waiting < left_to_read level outer
 less_after_level level outer waiting next is = rw is (omega (arith, sum_by-append (λ (r : Rest). length r.bytes.now) waiting (next ∷ []), length-append waiting (next ∷ [])))
@@ -172,36 +174,36 @@ AllByRecursion-pop (q ∷ rs) r (here, all) = let made = AllByRecursion-pop rs r
 -- ---- the loop
 
 -- the AVPs of the rows so far are listed, and those that are owed follow them in the whole level
-pub record IsListing (d : Dictionary) (whole : Level) (old now : List MessageAvp) (count : ℕ) (rs : List Rest) (r : Rest) : Type 0 where
+pub record IsListing (d : Dictionary) (whole : Level) (old now : List MessageAvp) (count : ℕ) (bad : Option ℕ) (rs : List Rest) (r : Rest) : Type 0 where
   pub rows : List Row
-  pub good : GoesOn rows
   pub many : count ≡ length (avps_of rows)
   pub first : AreFirst (avps_of rows) old now
+  pub first_bad : bad ≡ bad_of rows
   pub bounded : count + left_to_read r.bytes.now rs ≤ 2 * length whole.bytes
   pub within : IsWithin r
   pub all_within : AllByRecursion IsWithin rs
-  pub goes_on : (more : List Row) (bad : Bool) → Owes d 0 rs (left_of (length rs) r) more bad → AreRows d whole (rows ++ more) bad
+  pub goes_on : (more : List Row) → Owes d 0 rs (left_of (length rs) r) more → AreAllRows d whole (rows ++ more)
 
 -- a level that begins at an offset ends after its bytes
 pub level_at_place : (r : Rest) (place : ℕ) → r.end ≡ place + length r.bytes.now → left_of 0 r ≡ record { depth = 0; place = place; bytes = r.bytes.now }
 level_at_place r place is_end = let begin : r.end - length r.bytes.now ≡ place = omega (arith, is_end) in ap (λ (n : ℕ). record { depth = 0; place = n; bytes = r.bytes.now }) begin
 
 module _ (d : Dictionary) (whole : Level) (old : List MessageAvp) where
-  pub begun : (r : Rest) → IsWithin r → left_of 0 r ≡ whole → IsListing d whole old old 0 [] r
+  pub begun : (r : Rest) → IsWithin r → left_of 0 r ≡ whole → IsListing d whole old old 0 None [] r
   begun r within same =
       let size : length r.bytes.now ≡ length whole.bytes = ap (λ (l : Level). length l.bytes) same in
       record {
         rows = [];
-        good = λ n more. refl;
         many = refl;
         first = none_first old;
+        first_bad = refl;
         bounded = omega (arith, size);
         within = within;
         all_within = tt;
-        goes_on = λ more bad h. subst (λ (l : Level). AreRows d l more bad) same h;
+        goes_on = λ more h. subst (λ (l : Level). AreAllRows d l more) same h;
       }
 
-  module _ (now : List MessageAvp) (count : ℕ) (rs : List Rest) (r : Rest) (u : IsListing d whole old now count rs r) where
+  module _ (now : List MessageAvp) (count : ℕ) (bad : Option ℕ) (rs : List Rest) (r : Rest) (u : IsListing d whole old now count bad rs r) where
     module _ (new : List MessageAvp) (next : Rest) (place depth : ℕ) (v : PlainAvp) (begins : BeginsWith v r.bytes.now next.bytes.now) (same_end : next.end ≡ r.end)
         (deep : depth ≡ length rs) (here : place ≡ r.end - length r.bytes.now) (is_new : new ≡ set now count (avp_record place depth v (known_avp d v))) where
       is_row : new ≡ set now count (row_record d (left_of (length rs) r) v)
@@ -219,6 +221,9 @@ module _ (d : Dictionary) (whole : Level) (old : List MessageAvp) where
       many_more : count + 1 ≡ length (avps_of (u.rows ++ row_of d (left_of (length rs) r) v ∷ []))
       many_more = omega (arith, u.many, ap length avps_more, length_push (avps_of u.rows) (row_record d (left_of (length rs) r) v))
 
+      same_bad : bad ≡ bad_of (u.rows ++ row_of d (left_of (length rs) r) v ∷ [])
+      same_bad = u.first_bad ∙ sym (bad_of-push d (left_of (length rs) r) v u.rows)
+
       is_after : left_of (length rs) next ≡ after (left_of (length rs) r) v next.bytes.now
       is_after =
           let size = length-level v r.bytes.now next.bytes.now begins in
@@ -228,23 +233,23 @@ module _ (d : Dictionary) (whole : Level) (old : List MessageAvp) where
       is_within : IsWithin next
       is_within = (omega (arith, length-level v r.bytes.now next.bytes.now begins, u.within.0, same_end), omega (arith, u.within.1, same_end))
 
-      pub leaf_listed : is_group (known_avp d v) ≡ false → IsListing d whole old new (count + 1) rs next
+      pub leaf_listed : is_group (known_avp d v) ≡ false → IsListing d whole old new (count + 1) bad rs next
       leaf_listed no_group = record {
         rows = u.rows ++ row_of d (left_of (length rs) r) v ∷ [];
-        good = GoesOn-push d (left_of (length rs) r) v u.rows u.good;
         many = many_more;
         first = first_more;
+        first_bad = same_bad;
         bounded = omega (arith, u.bounded, less_after_avp v r.bytes.now next.bytes.now rs begins);
         within = is_within;
         all_within = u.all_within;
-        goes_on = λ more bad h. subst (λ (t : List Row). AreRows d whole t bad) (sym (append_assoc u.rows (row_of d (left_of (length rs) r) v ∷ []) more))
-            (u.goes_on (row_of d (left_of (length rs) r) v ∷ more) bad
-            (Owes-front d 0 rs (left_of (length rs) r) (left_of (length rs) next) (row_of d (left_of (length rs) r) v) more bad
-            (λ t b k. leaf v next.bytes.now t begins no_group (subst (λ (l : Level). AreRows d l t b) is_after k) refl) h));
+        goes_on = λ more h. subst (λ (t : List Row). AreAllRows d whole t) (sym (append_assoc u.rows (row_of d (left_of (length rs) r) v ∷ []) more))
+            (u.goes_on (row_of d (left_of (length rs) r) v ∷ more)
+            (Owes-front d 0 rs (left_of (length rs) r) (left_of (length rs) next) (row_of d (left_of (length rs) r) v) more
+            (λ t k. leaf v next.bytes.now t begins no_group (subst (λ (l : Level). AreAllRows d l t) is_after k) refl) h));
       }
 
       pub group_listed : (inner : Rest) → inner.bytes.now ≡ v.bytes → inner.end ≡ place + avp_length v → is_group (known_avp d v) ≡ true
-          → IsListing d whole old new (count + 1) (rs ++ next ∷ []) inner
+          → IsListing d whole old new (count + 1) bad (rs ++ next ∷ []) inner
       group_listed inner is_data is_end grouped =
           let size = length-level v r.bytes.now next.bytes.now begins in
           let data_length : length inner.bytes.now ≡ length v.bytes = ap length is_data in
@@ -256,77 +261,74 @@ module _ (d : Dictionary) (whole : Level) (old : List MessageAvp) where
           ∙ ap (λ (b : List ℕ). record { depth = length rs + 1; place = r.end - length r.bytes.now + head_length v.vendor; bytes = b }) is_data in
           record {
             rows = u.rows ++ row_of d (left_of (length rs) r) v ∷ [];
-            good = GoesOn-push d (left_of (length rs) r) v u.rows u.good;
             many = many_more;
             first = first_more;
+            first_bad = same_bad;
             bounded = omega (arith, u.bounded, less_inside v r.bytes.now next rs (rs ++ next ∷ []) begins refl, data_length);
             within = (omega (arith, is_end, data_length), omega (arith, is_end, here, size, u.within.0, u.within.1, rounded-le (avp_length v)));
             all_within = AllByRecursion-push rs next u.all_within is_within;
-            goes_on = λ more bad h. subst (λ (t : List Row). AreRows d whole t bad) (sym (append_assoc u.rows (row_of d (left_of (length rs) r) v ∷ []) more))
-                (u.goes_on (row_of d (left_of (length rs) r) v ∷ more) bad
-                (Owes-group d 0 rs next (left_of (length rs) r) v next.bytes.now more bad begins grouped outside
-                (subst (λ (l : Level). Owes d 0 (rs ++ next ∷ []) l more bad) inward h)));
+            goes_on = λ more h. subst (λ (t : List Row). AreAllRows d whole t) (sym (append_assoc u.rows (row_of d (left_of (length rs) r) v ∷ []) more))
+                (u.goes_on (row_of d (left_of (length rs) r) v ∷ more)
+                (Owes-group d 0 rs next (left_of (length rs) r) v next.bytes.now more begins grouped outside
+                (subst (λ (l : Level). Owes d 0 (rs ++ next ∷ []) l more) inward h)));
           }
 
+    -- a bad length: nothing more is read of its level
+    pub bad_listed : (now_bad : Option ℕ) (next : Rest) (place : ℕ) → now_bad ≡ option_or bad (Some place) → next.bytes.now ≡ [] → next.end ≡ r.end → 0 < length r.bytes.now → BeginsWithNone r.bytes.now
+        → place ≡ r.end - length r.bytes.now → IsListing d whole old now count now_bad rs next
+    bad_listed now_bad next place is_bad empty same_end some none here =
+        let size : length next.bytes.now ≡ 0 = ap length empty in
+        record {
+          rows = u.rows ++ of_bad_length place ∷ [];
+          many = u.many ∙ ap length (sym (avps_of-bad place u.rows));
+          first = subst (λ (t : List MessageAvp). AreFirst t old now) (sym (avps_of-bad place u.rows)) u.first;
+          first_bad = is_bad ∙ ap (λ (b : Option ℕ). option_or b (Some place)) u.first_bad ∙ sym (bad_of-bad place u.rows);
+          bounded = omega (arith, u.bounded, size);
+          within = (omega (arith, size), omega (arith, u.within.1, same_end));
+          all_within = u.all_within;
+          goes_on = λ more h. subst (λ (t : List Row). AreAllRows d whole t) (sym (append_assoc u.rows (of_bad_length place ∷ []) more))
+              (u.goes_on (of_bad_length place ∷ more)
+              (Owes-front d 0 rs (left_of (length rs) r) (left_of (length rs) next) (of_bad_length place) more
+              (λ t k. bad_length some none
+              (ap (λ (n : ℕ). of_bad_length n ∷ t) here ∙ ap (λ (rest : List Row). of_bad_length (r.end - length r.bytes.now) ∷ rest) (no_rows d (left_of (length rs) next) t empty k))) h));
+        }
+
     -- a level is done
-    pub level_listed : (outer : List Rest) (next : Rest) → rs ≡ outer ++ next ∷ [] → length r.bytes.now ≡ 0 → IsListing d whole old now count outer next
+    pub level_listed : (outer : List Rest) (next : Rest) → rs ≡ outer ++ next ∷ [] → length r.bytes.now ≡ 0 → IsListing d whole old now count bad outer next
     level_listed outer next is_rs none =
         let left = AllByRecursion-pop outer next (subst (AllByRecursion IsWithin) is_rs u.all_within) in
         record {
           rows = u.rows;
-          good = u.good;
           many = u.many;
           first = u.first;
+          first_bad = u.first_bad;
           bounded = omega (arith, u.bounded, less_after_level r.bytes.now rs outer next is_rs);
           within = left.1;
           all_within = left.0;
-          goes_on = λ more bad h.
+          goes_on = λ more h.
               let deeper : left_of (length outer) next ≡ left_of (0 + length outer) next = ap (λ (n : ℕ). left_of n next) (omega arith) in
-              let made = Owes-end d 0 outer next (left_of (length rs) r) more bad (nil_from_length r.bytes.now none) (subst (λ (l : Level). Owes d 0 outer l more bad) deeper h) in
-              u.goes_on more bad (subst (λ (qs : List Rest). Owes d 0 qs (left_of (length rs) r) more bad) (sym is_rs) made);
+              let made = Owes-end d 0 outer next (left_of (length rs) r) more (nil_from_length r.bytes.now none) (subst (λ (l : Level). Owes d 0 outer l more) deeper h) in
+              u.goes_on more (subst (λ (qs : List Rest). Owes d 0 qs (left_of (length rs) r) more) (sym is_rs) made);
         }
 
     -- all levels are done
-    pub all_listed : (to : ℕ) → rs ≡ [] → length r.bytes.now ≡ 0 → to ≡ whole.place + length whole.bytes → AreLevelListed d whole old now count to
-    all_listed to no_more none is_end =
-        let owed : Owes d 0 rs (left_of (length rs) r) [] false =
-        subst (λ (qs : List Rest). Owes d 0 qs (left_of (length qs) r) [] false) (sym no_more) (end (nil_from_length r.bytes.now none) refl refl) in
+    pub all_listed : (place : ℕ) → rs ≡ [] → length r.bytes.now ≡ 0 → place ≡ unwrap_or bad (whole.place + length whole.bytes)
+        → AreLevelListed d whole old now count place
+    all_listed place no_more none is_bad =
+        let owed : Owes d 0 rs (left_of (length rs) r) [] =
+        subst (λ (qs : List Rest). Owes d 0 qs (left_of (length qs) r) []) (sym no_more) (end (nil_from_length r.bytes.now none) refl) in
         record {
           rows = u.rows;
-          bad = false;
-          are = subst (λ (t : List Row). AreRows d whole t false) (append-nil u.rows) (u.goes_on [] false owed);
+          are = subst (λ (t : List Row). AreAllRows d whole t) (append-nil u.rows) (u.goes_on [] owed);
           many = u.many;
           first = u.first;
-          end_is = is_end ∙ sym (u.good (whole.place + length whole.bytes) []) ∙ ap (end_of (whole.place + length whole.bytes)) (append-nil u.rows);
-        }
-
-    -- a bad length ends all
-    pub listed_to : (to : ℕ) → 0 < length r.bytes.now → BeginsWithNone r.bytes.now → to ≡ r.end - length r.bytes.now → AreLevelListed d whole old now count to
-    listed_to to some none is_end =
-        let place = r.end - length r.bytes.now in
-        record {
-          rows = u.rows ++ of_bad_length place ∷ [];
-          bad = true;
-          are = u.goes_on (of_bad_length place ∷ []) true (Owes-bad d 0 rs (left_of (length rs) r) some none);
-          many = u.many ∙ ap length (sym (avps_of-bad place u.rows));
-          first = subst (λ (t : List MessageAvp). AreFirst t old now) (sym (avps_of-bad place u.rows)) u.first;
-          end_is = is_end ∙ sym (u.good (whole.place + length whole.bytes) (of_bad_length place ∷ []));
+          first_bad = is_bad ∙ ap (λ (b : Option ℕ). unwrap_or b (whole.place + length whole.bytes)) u.first_bad;
         }
 
 -- the level is the body of a message
-pub listed_message : (d : Dictionary) (bytes body : List ℕ) (old new : List MessageAvp) (count to : ℕ) (h : Header) → IsHead h (length bytes) (take 20 bytes) → IsMessageLength (length bytes)
-    → body ≡ drop 20 bytes → AreLevelListed d (record { depth = 0; place = 20; bytes = body }) old new count to → AreListed d bytes old new count to
-listed_message d bytes body old new count to h head long is_body l =
-    let size : 20 + length body ≡ length bytes = omega (arith, ap length is_body, length-drop 20 bytes, long.no_less) in
-    record {
-      avps = avps_of l.rows;
-      are = (
-        Row.of_header h (length bytes) (command_name d h) ∷ l.rows,
-        l.bad,
-        record { h = h; avps = l.rows; head = head; long = long; body = subst (λ (b : List ℕ). AreRows d (record { depth = 0; place = 20; bytes = b }) l.rows l.bad) is_body l.are; are = refl },
-        refl,
-        l.end_is ∙ ap (λ (n : ℕ). end_of n l.rows) size,
-      );
-      many = l.many;
-      first = l.first;
-    }
+pub listed_message : (d : Dictionary) (bytes body : List ℕ) (old new : List MessageAvp) (count bad : ℕ) (h : Header) → IsHead h (length bytes) (take 20 bytes) → IsMessageLength (length bytes)
+    → body ≡ drop 20 bytes → AreLevelListed d (record { depth = 0; place = 20; bytes = body }) old new count bad → AreListed d bytes old new count bad
+listed_message d bytes body old new count bad h head long is_body l = record {
+  message = (h, head, long);
+  body = subst (λ (b : List ℕ). AreLevelListed d (record { depth = 0; place = 20; bytes = b }) old new count bad) is_body l;
+}

@@ -53,7 +53,7 @@ module _ (d : Dictionary) where
 
   module _ (level : Level) (v : PlainAvp) (rest : List ℕ) (begins : BeginsWith v level.bytes rest) where
     -- an AVP of the level is the first, in what follows it, or in its data
-    at_front : (place depth : ℕ) (w : PlainAvp) → IsAvpIn d level place depth w
+    pub at_front : (place depth : ℕ) (w : PlainAvp) → IsAvpIn d level place depth w
         → ((place ≡ level.place) × (depth ≡ level.depth) × (w ≡ v))
         ⊎ (IsAvpIn d (after level v rest) place depth w ⊎ ((is_group (known_avp d v) ≡ true) × IsAvpIn d (inside level v) place depth w))
     at_front place depth w (front more begins' is_place is_depth) = inl (is_place, is_depth, (one_front level.bytes w v more rest begins' begins).0)
@@ -129,14 +129,15 @@ module _ (d : Dictionary) where
           ],
         )
 
-  -- where no AVP begins, none holds the byte
+  -- where no AVP begins, there is none
+  pub none_in : (level : Level) → BeginsWithNone level.bytes → (place depth : ℕ) (v : PlainAvp) → ¬ IsAvpIn d level place depth v
+  none_in level none place depth v (front rest begins is_place is_depth) = none v rest begins
+  none_in level none place depth v (later w rest begins h) = none w rest begins
+  none_in level none place depth v (member w rest begins grouped h) = none w rest begins
+
+  -- and none holds the byte
   pub no_avps : (level : Level) → BeginsWithNone level.bytes → (offset k : ℕ) (a : MessageAvp) → ¬ Holds d level offset k a
   no_avps level none offset k a h = none_in level none h.place k h.v h.within
-    where
-      none_in : (l : Level) → BeginsWithNone l.bytes → (place depth : ℕ) (v : PlainAvp) → ¬ IsAvpIn d l place depth v
-      none_in l none place depth v (front rest begins is_place is_depth) = none v rest begins
-      none_in l none place depth v (later w rest begins h) = none w rest begins
-      none_in l none place depth v (member w rest begins grouped h) = none w rest begins
 
   -- ---- the loop
 

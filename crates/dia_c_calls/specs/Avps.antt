@@ -1,11 +1,11 @@
 -- The AVPs of a message, as records of C.
-use Rattle.std.specs.Prelude.{◌≡◌, ℕ, ◌+◌, ◌-◌, ◌++◌, Bool, List, [], ◌∷◌, length, take, drop, min, replicate, Option, None, Some, unwrap_or}
+use Rattle.std.specs.Prelude.{◌≡◌, ℕ, ◌+◌, ◌-◌, ◌<◌, ◌++◌, true, false, List, [], ◌∷◌, length, take, drop, min, replicate, Option, None, Some, unwrap_or}
 use Rattle.dia_terms.specs.declared.FormatName.{FormatName}
 use Rattle.dia_terms.specs.declared.FormatName.TheVariants as name
-use Rattle.dia_wire.specs.Wire.{PlainAvp, avp_length, head_length}
+use Rattle.dia_wire.specs.Wire.{PlainAvp, BeginsMessage, BeginsWith, BeginsWithNone, avp_length, head_length}
 use Rattle.dia_data.specs.Plain.{name_of}
 use Rattle.dia_book.specs.Dictionary.{Dictionary}
-use Rattle.dia_run.specs.Rows.{AreMessageRows, AreRows, Level, PlainKnown, Row, of_avp, of_bad_length, of_header}
+use Rattle.dia_run.specs.Rows.{Level, PlainKnown, Row, after, body_of, inside, is_group, known_avp, of_avp, of_bad_length, of_header, row_of}
 use Rattle.dia_c_calls.specs.declared.avp_records.MessageAvp.{MessageAvp}
 
 -- the number of a format, in the order of docs/FORMATS.md
@@ -55,42 +55,54 @@ avp_record place depth v known = record {
   flags = v.flags;
   format = number_of known;
   name = in_array (name_in known);
+  reserved = replicate 4 0;
 }
 
--- the AVPs among the rows of a message
+-- ---- rows
+
+-- all rows of a level: one for each AVP, and after that of a group those of its members. A bad length ends its own level alone
+pub data AreAllRows (d : Dictionary) : Level → List Row → Type 0 where
+  end : {level : Level} {rows : List Row} → level.bytes ≡ [] → rows ≡ [] → AreAllRows d level rows
+  bad_length : {level : Level} {rows : List Row} → 0 < length level.bytes → BeginsWithNone level.bytes
+      → rows ≡ of_bad_length level.place ∷ [] → AreAllRows d level rows
+  leaf : {level : Level} {rows : List Row} (v : PlainAvp) (rest : List ℕ) (more : List Row)
+      → BeginsWith v level.bytes rest → is_group (known_avp d v) ≡ false
+      → AreAllRows d (after level v rest) more → rows ≡ row_of d level v ∷ more → AreAllRows d level rows
+  group : {level : Level} {rows : List Row} (v : PlainAvp) (rest : List ℕ) (members more : List Row)
+      → BeginsWith v level.bytes rest → is_group (known_avp d v) ≡ true
+      → AreAllRows d (inside level v) members → AreAllRows d (after level v rest) more
+      → rows ≡ row_of d level v ∷ (members ++ more) → AreAllRows d level rows
+
+-- the AVPs among rows
 abbrev pub avps_of : List Row → List MessageAvp
 avps_of [] = []
 avps_of (of_avp place depth v known ∷ rows) = avp_record place depth v known ∷ avps_of rows
 avps_of (of_header h len command ∷ rows) = avps_of rows
 avps_of (of_bad_length place ∷ rows) = avps_of rows
 
--- the offset of a bad AVP length, which ends the AVPs, or else of the end of the bytes
-abbrev pub end_of : ℕ → List Row → ℕ
-end_of end [] = end
-end_of end (of_avp place depth v known ∷ rows) = end_of end rows
-end_of end (of_header h len command ∷ rows) = end_of end rows
-end_of end (of_bad_length place ∷ rows) = place
+-- the offset of the first bad length among rows
+abbrev pub bad_of : List Row → Option ℕ
+bad_of [] = None
+bad_of (of_avp place depth v known ∷ rows) = bad_of rows
+bad_of (of_header h len command ∷ rows) = bad_of rows
+bad_of (of_bad_length place ∷ rows) = Some place
 
--- the AVPs of a message in the order of their bytes, each group that the dictionary has followed by its members, up to this offset
-abbrev pub AreAvps : Dictionary → List ℕ → List MessageAvp → ℕ → Type 0
-AreAvps d bytes avps end = (rows : List Row) × (bad : Bool) × AreMessageRows d bytes rows bad × (avps ≡ avps_of rows) × (end ≡ end_of (length bytes) rows)
+-- ---- what is written
 
 -- the first of these records, as many as there is room for, are in the first places; the others are as before
 abbrev pub AreFirst : List MessageAvp → List MessageAvp → List MessageAvp → Type 0
 AreFirst avps old new = new ≡ take (length old) avps ++ drop (length avps) old
 
--- the AVPs of a message are so many, and the first of them are in an array
-pub record AreListed (d : Dictionary) (bytes : List ℕ) (old new : List MessageAvp) (count end : ℕ) : Type 0 where
-  pub avps : List MessageAvp
-  pub are : AreAvps d bytes avps end
-  pub many : count ≡ length avps
-  pub first : AreFirst avps old new
-
--- the same of the AVPs of a level
-pub record AreLevelListed (d : Dictionary) (level : Level) (old new : List MessageAvp) (count end : ℕ) : Type 0 where
+-- the AVPs of a level and of the groups in it are so many, the first of them are in an array, and the first bad length is at this
+-- offset; or this is the end of the level
+pub record AreLevelListed (d : Dictionary) (level : Level) (old new : List MessageAvp) (count bad : ℕ) : Type 0 where
   pub rows : List Row
-  pub bad : Bool
-  pub are : AreRows d level rows bad
+  pub are : AreAllRows d level rows
   pub many : count ≡ length (avps_of rows)
   pub first : AreFirst (avps_of rows) old new
-  pub end_is : end ≡ end_of (level.place + length level.bytes) rows
+  pub first_bad : bad ≡ unwrap_or (bad_of rows) (level.place + length level.bytes)
+
+-- the same of the bytes of a message
+pub record AreListed (d : Dictionary) (bytes : List ℕ) (old new : List MessageAvp) (count bad : ℕ) : Type 0 where
+  pub message : BeginsMessage bytes (length bytes)
+  pub body : AreLevelListed d (body_of bytes) old new count bad

@@ -4,6 +4,7 @@ pub mod Batches
 pub mod Comparisons
 pub mod DictParts
 pub mod Feedings
+pub mod FirstAvps
 pub mod Handles
 pub mod Heads
 pub mod Held

@@ -1,5 +1,5 @@
 -- What is said of a message, as numbers.
-use Rattle.std.specs.Prelude.{◌≡◌, ◌≢◌, ◌≤◌, ◌<◌, ℕ, ◌⊎◌, nat_eq, List, length, take, drop, slice_index, Result, Ok, Err, if◌then◌else◌}
+use Rattle.std.specs.Prelude.{◌≡◌, ◌≢◌, ◌≤◌, ◌<◌, ℕ, ◌⊎◌, nat_eq, List, length, take, drop, replicate, slice_index, Result, Ok, Err, if◌then◌else◌}
 use Rattle.dia_book.specs.Dictionary.{Dictionary}
 use Rattle.dia_terms.specs.declared.Unknown.{Unknown}
 use Rattle.dia_terms.specs.declared.Unknown.TheVariants as unknown
@@ -31,13 +31,17 @@ policy_of n = if nat_eq n 1 then unknown.Refused else unknown.Kept
 abbrev pub limit_of : ℕ → Levels
 limit_of n = if nat_eq n 4294967295 then levels.Any else levels.AtMost n
 
+-- fields that may be added are zeros
+abbrev pub no_fields : List ℕ
+no_fields = replicate 4 0
+
 abbrev pub said : ℕ → ℕ → Verdict
-said outcome command = record { outcome = outcome; command = command; code = 0; place = 0; reason = 0; subject = 0; avp_code = 0; avp_vendor = 0 }
+said outcome command = record { outcome = outcome; command = command; code = 0; place = 0; reason = 0; subject = 0; avp_code = 0; avp_vendor = 0; reserved = no_fields }
 
 abbrev pub recorded_of : Fault → Subject → Verdict
-recorded_of f subject.Nothing = record { outcome = 1; command = 0; code = f.code; place = f.place; reason = row_of f.reason; subject = 0; avp_code = 0; avp_vendor = 0 }
-recorded_of f (subject.Avp key) = record { outcome = 1; command = 0; code = f.code; place = f.place; reason = row_of f.reason; subject = 1; avp_code = key.code; avp_vendor = key.vendor }
-recorded_of f subject.Wildcard = record { outcome = 1; command = 0; code = f.code; place = f.place; reason = row_of f.reason; subject = 2; avp_code = 0; avp_vendor = 0 }
+recorded_of f subject.Nothing = record { outcome = 1; command = 0; code = f.code; place = f.place; reason = row_of f.reason; subject = 0; avp_code = 0; avp_vendor = 0; reserved = no_fields }
+recorded_of f (subject.Avp key) = record { outcome = 1; command = 0; code = f.code; place = f.place; reason = row_of f.reason; subject = 1; avp_code = key.code; avp_vendor = key.vendor; reserved = no_fields }
+recorded_of f subject.Wildcard = record { outcome = 1; command = 0; code = f.code; place = f.place; reason = row_of f.reason; subject = 2; avp_code = 0; avp_vendor = 0; reserved = no_fields }
 
 abbrev pub fault_verdict : Fault → Verdict
 fault_verdict f = recorded_of f f.subject

@@ -14,11 +14,11 @@ use dia_book::Book;
 use dia_wire::{Avp, AvpFault, HEADER_LENGTH, next_avp, split_message};
 use std::alloc::{AllocError, Global};
 
-/// How many AVPs there are, and the offset at which they end.
+/// How many AVPs there are, and the offset of the first bad AVP Length, or else of the end.
 #[derive(Clone, Copy)]
 pub struct Listed {
     pub count: usize,
-    pub end: usize,
+    pub bad: usize,
 }
 
 /// What is left of a level, and the offset of the level's end.
@@ -35,7 +35,7 @@ pub fn list_avps<B: Book>(
     message: &[u8],
     avps: &mut [MessageAvp],
 ) -> Result<Listed, Unshown>
-    ensures done { IfOk result (λ found. AreListed (B.meaning book.now) message.now avps.old avps.new found.count found.end) }
+    ensures done { IfOk result (λ found. AreListed (B.meaning book.now) message.now avps.old avps.new found.count found.bad) }
     ensures no_message { IfErr result (λ e. (v : AnyVerdict) → e ≡ Unshown.NoMessage v
         → IsNoMessage message.now v × (avps.new ≡ avps.old)) }
 {
@@ -46,6 +46,7 @@ pub fn list_avps<B: Book>(
 }
 
 /// Records the AVPs of a level, and of the groups in it that the dictionary has. `bytes` are the level, which begins at `place`.
+/// A bad AVP Length ends its own level.
 ///
 /// The levels around the current one wait in a list, so depth takes memory and no stack.
 fn list_level<B: Book>(
@@ -57,12 +58,13 @@ fn list_level<B: Book>(
 ) -> Result<Listed, AllocError>
     requires { place + length bytes.now < 2 ^ 63 }
     ensures { IfOk result (λ found. AreLevelListed (B.meaning book.now)
-        (record { depth = 0; place = place; bytes = bytes.now }) avps.old avps.new found.count found.end) }
+        (record { depth = 0; place = place; bytes = bytes.now }) avps.old avps.new found.count found.bad) }
 {
     let end = place + bytes.len();
     let mut outer = Vec::new(alloc);
     let mut rest = Rest { bytes, end };
     let mut count = 0;
+    let mut bad = None;
     loop {
         let place = rest.end - rest.bytes.len();
         match next_avp(rest.bytes) {
@@ -80,9 +82,17 @@ fn list_level<B: Book>(
             }
             Ok(None) => match outer.pop() {
                 Some(level) => rest = level,
-                None => return Ok(Listed { count, end }),
+                None => {
+                    return Ok(Listed {
+                        count,
+                        bad: bad.unwrap_or(end),
+                    });
+                }
             },
-            Err(AvpFault::Length) => return Ok(Listed { count, end: place }),
+            Err(AvpFault::Length) => {
+                bad = bad.or(Some(place));
+                rest.bytes = &[];
+            }
         }
     }
 }

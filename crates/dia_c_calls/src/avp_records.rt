@@ -33,7 +33,12 @@ pub struct MessageAvp {
     pub format: u32,
     /// Its name, with zeros after it.
     pub name: [u8; MAX_NAME],
+    /// The place of fields that are added: zeros.
+    pub reserved: [u64; RESERVED],
 }
+
+/// How many words fields that are added may take.
+const RESERVED: usize = 4;
 
 /// The record of an AVP at an offset and a depth.
 pub fn avp_record(place: usize, depth: usize, avp: &Avp<'_>, known: Option<Known<'_>>) -> MessageAvp
@@ -53,6 +58,7 @@ pub fn avp_record(place: usize, depth: usize, avp: &Avp<'_>, known: Option<Known
         flags: u32::from(avp.flags),
         format: number_of(known),
         name,
+        reserved: [0; RESERVED],
     }
 }
 

@@ -19,6 +19,7 @@ mod explanations;
 mod fault_lists;
 mod feeding;
 mod findings;
+mod first_avp;
 mod handle;
 mod heads;
 mod held;
@@ -52,7 +53,7 @@ mod verdict_words;
 mod wanted;
 mod words;
 
-pub use avp_calls::{avps, avps_at};
+pub use avp_calls::{avp_find, avps, avps_at};
 pub use avp_records::MessageAvp;
 pub use batches::check_many;
 pub use checks::{check, check_json, message_length};

@@ -33,7 +33,12 @@ pub struct Verdict {
     pub subject: u32,
     pub avp_code: u32,
     pub avp_vendor: u32,
+    /// The place of fields that are added: zeros.
+    pub reserved: [u32; RESERVED],
 }
+
+/// How many words fields that are added may take.
+const RESERVED: usize = 4;
 
 const ALL_ZERO: Verdict = Verdict {
     outcome: 0,
@@ -44,6 +49,7 @@ const ALL_ZERO: Verdict = Verdict {
     subject: 0,
     avp_code: 0,
     avp_vendor: 0,
+    reserved: [0; RESERVED],
 };
 
 /// There are fewer bytes than the header or than Message Length.

@@ -1,7 +1,9 @@
 mod Answers
+mod Collected
 mod LinesWithMarks
 mod FoundMarks
 mod Present
+mod SameEffects
 mod SameSubjects
 mod SubjectTests
 mod Tests

@@ -1,24 +1,25 @@
 -- Lines that get their marks.
-use Rattle.std.proofs.Common.{◌≡◌, ℕ, ◌+◌, ◌<◌, Bool, false, List, [], ◌∷◌, ◌++◌, length, map, take, get_or, refl, sym, ap, subst, ◌∙◌}
+use Rattle.std.proofs.Common.{◌≡◌, ℕ, ◌+◌, ◌<◌, false, List, [], ◌∷◌, ◌++◌, length, map, take, get_or, refl, sym, ap, subst, ◌∙◌}
 use Rattle.std.specs.List.{AllByRecursion}
 use Rattle.std.proofs.lemmas.List.{map-append, take_more}
 use Rattle.dia_book.specs.Dictionary.{Dictionary}
 use Rattle.dia_terms.specs.declared.Sends.{Sends}
 use Rattle.dia_terms.specs.declared.Unknown.{Unknown}
+use Rattle.dia_differences.specs.declared.lines.Effects.{Effects}
 use Rattle.dia_differences.specs.declared.lines.Line.{Line}
 use Rattle.dia_differences.specs.declared.lines.What.{What}
 use Rattle.dia_diff.specs.MarkedLines.{AreMarkedLines, back_from, there_from, with_marks}
 use Rattle.dia_diff.specs.Marks.{AreMarks, whats}
 use Rattle.dia_diff.specs.Unbroken.{AreSoundMarks}
 
-module _ (there back : What → Bool) where
-  pub marked_next : (lines : List Line) (i : ℕ) (d : Line) (old new : List Line) (x y : Bool) → i < length lines → new ≡ old ++ record { what = (get_or lines i d).what; there = x; back = y } ∷ []
+module _ (there back : What → Effects) where
+  pub marked_next : (lines : List Line) (i : ℕ) (d : Line) (old new : List Line) (x y : Effects) → i < length lines → new ≡ old ++ record { what = (get_or lines i d).what; there = x; back = y } ∷ []
       → x ≡ there (get_or lines i d).what → y ≡ back (get_or lines i d).what → old ≡ map (with_marks there back) (take i lines) → new ≡ map (with_marks there back) (take (i + 1) lines)
   marked_next lines i d old new x y within is first second before =
       let w = (get_or lines i d).what in
-      let own : Bool → Bool → Line = λ u v. record { what = w; there = u; back = v } in
-      is ∙ ap (λ (ls : List Line). ls ++ own x y ∷ []) before ∙ ap (λ (u : Bool). map (with_marks there back) (take i lines) ++ own u y ∷ []) first
-      ∙ ap (λ (v : Bool). map (with_marks there back) (take i lines) ++ own (there w) v ∷ []) second
+      let own : Effects → Effects → Line = λ u v. record { what = w; there = u; back = v } in
+      is ∙ ap (λ (ls : List Line). ls ++ own x y ∷ []) before ∙ ap (λ (u : Effects). map (with_marks there back) (take i lines) ++ own u y ∷ []) first
+      ∙ ap (λ (v : Effects). map (with_marks there back) (take i lines) ++ own (there w) v ∷ []) second
       ∙ sym (map-append (with_marks there back) (take i lines) (get_or lines i d ∷ [])) ∙ ap (map (with_marks there back)) (sym (take_more lines i d within))
 
   same_whats : (lines : List Line) → whats (map (with_marks there back) lines) ≡ whats lines
@@ -32,11 +33,11 @@ module _ (there back : What → Bool) where
   have_marks [] = tt
   have_marks (line ∷ lines) = ((refl, refl), have_marks lines)
 
-  none_there : (lines : List Line) → AllByRecursion (λ line. line.there ≡ false) (map (with_marks there back) lines) → AllByRecursion (λ w. there w ≡ false) (whats lines)
+  none_there : (lines : List Line) → AllByRecursion (λ line. line.there.breaks ≡ false) (map (with_marks there back) lines) → AllByRecursion (λ w. (there w).breaks ≡ false) (whats lines)
   none_there [] h = tt
   none_there (line ∷ lines) h = (h.0, none_there lines h.1)
 
-  none_back : (lines : List Line) → AllByRecursion (λ line. line.back ≡ false) (map (with_marks there back) lines) → AllByRecursion (λ w. back w ≡ false) (whats lines)
+  none_back : (lines : List Line) → AllByRecursion (λ line. line.back.breaks ≡ false) (map (with_marks there back) lines) → AllByRecursion (λ w. (back w).breaks ≡ false) (whats lines)
   none_back [] h = tt
   none_back (line ∷ lines) h = (h.0, none_back lines h.1)
 
@@ -50,11 +51,11 @@ module _ (there back : What → Bool) where
       let same = sym (whats_marked lines marked is) in
       let non_empty = no_whats lines some in
       record {
-        is_there = there;
-        is_back = back;
+        effects_there = there;
+        effects_back = back;
         there = subst (λ (ws : List What). AreMarks (there_from a b sends unknown) ws there) same first.marks;
         back = subst (λ (ws : List What). AreMarks (back_from a b sends unknown) ws back) same second.marks;
         marks = subst (AllByRecursion (λ line. (line.there ≡ there line.what) × (line.back ≡ back line.what))) (sym is) (have_marks lines);
-        unbroken_there = λ none. first.unbroken non_empty (none_there lines (subst (AllByRecursion (λ line. line.there ≡ false)) is none));
-        unbroken_back = λ none. second.unbroken non_empty (none_back lines (subst (AllByRecursion (λ line. line.back ≡ false)) is none));
+        unbroken_there = λ none. first.unbroken non_empty (none_there lines (subst (AllByRecursion (λ line. line.there.breaks ≡ false)) is none));
+        unbroken_back = λ none. second.unbroken non_empty (none_back lines (subst (AllByRecursion (λ line. line.back.breaks ≡ false)) is none));
       }

@@ -12,6 +12,7 @@ use Rattle.dia_valid.proofs.Members.{IsIn, all_of, any_in, in_all, in_any, in_ap
 use Rattle.dia_valid.proofs.SelectedCommands.{Choice, NoChoice, choose}
 use Rattle.dia_breaking.specs.declared.line.Line.{Line as Breach}
 use Rattle.dia_breaking.specs.Free.{AllAreValid}
+use Rattle.dia_differences.specs.declared.lines.Effects.{Effects}
 use Rattle.dia_differences.specs.declared.lines.What.{What}
 use Rattle.dia_diff.specs.declared.subjects.Subject.{Subject}
 use Rattle.dia_diff.specs.Candidates.{candidates}
@@ -88,8 +89,8 @@ place_of d code app c class is = by (choose d code class app)
     by (inl choice) = (choice.place, slice_get_within d.commands choice.place choice.command choice.at, same_Some c (length (groups d) + choice.place) (sym is ∙ choice.is_selected))
     by (inr none) = absurd (none-some c (sym none.is_none ∙ is))
 
-pub unbroken : (r : Route) (ws : List What) (is_marked : What → Bool) → MarksFound (is_there ws) r (length r.between.sender.commands) is_marked → (ws ≡ [] → ⊥) → AllByRecursion (λ w. is_marked w ≡ false) ws → AllAreRead r.between
-unbroken r ws is_marked m some none bytes c sent =
+pub unbroken : (r : Route) (ws : List What) (effects : What → Effects) → MarksFound (is_there ws) r (length r.between.sender.commands) effects → (ws ≡ [] → ⊥) → AllByRecursion (λ w. (effects w).breaks ≡ false) ws → AllAreRead r.between
+unbroken r ws effects m some none bytes c sent =
     let s = r.between in
     let (i, within, is_c) = place_of s.sender sent.header.code sent.header.app c (class_of sent.header.flags) sent.select in
     let P : List ℕ → Type 0 = λ places. IsIn i places in
@@ -97,11 +98,11 @@ unbroken r ws is_marked m some none bytes c sent =
     let found = all_of (IsFound s) m.founds f m.are_found.each member in
     let valid = all_of (IsValidIfNone s) m.founds f m.valid member in
     let is : f.answer.command ≡ c = found.command ∙ ap (λ (n : ℕ). length (groups s.sender) + n) (sym place) ∙ sym is_c in
-    let empty : f.answer.lines ≡ [] = no_lines r f ws f.answer.lines some (λ w own. none_of (breaks_by (is_there ws) r w) m.founds f (sym (m.exact w) ∙ in_all (λ (w : What). is_marked w ≡ false) w ws none own) member) in
+    let empty : f.answer.lines ≡ [] = no_lines r f ws f.answer.lines some (λ w own. none_of (breaks_by (is_there ws) r w) m.founds f (sym (m.breaks w) ∙ in_all (λ (w : What). (effects w).breaks ≡ false) w ws none own) member) in
     let all : ∥ AllAreValid s c ∥₁ = subst (λ (n : ℕ). ∥ AllAreValid s n ∥₁) is (valid empty) in
     ∥∥₁_map all (λ (v : AllAreValid s c). v bytes sent)
 
-pub sound_marks : (r : Route) (ws : List What) (there : Subject → Bool) (is_marked : What → Bool) → there ≡ is_there ws → MarksFound there r (length r.between.sender.commands) is_marked → AreSoundMarks r ws is_marked
-sound_marks r ws there is_marked is found =
-    let m : MarksFound (is_there ws) r (length r.between.sender.commands) is_marked = subst (λ (t : Subject → Bool). MarksFound t r (length r.between.sender.commands) is_marked) is found in
-    record { marks = record { founds = m.founds; are_found = m.are_found; exact = m.exact }; unbroken = unbroken r ws is_marked m }
+pub sound_marks : (r : Route) (ws : List What) (there : Subject → Bool) (effects : What → Effects) → there ≡ is_there ws → MarksFound there r (length r.between.sender.commands) effects → AreSoundMarks r ws effects
+sound_marks r ws there effects is found =
+    let m : MarksFound (is_there ws) r (length r.between.sender.commands) effects = subst (λ (t : Subject → Bool). MarksFound t r (length r.between.sender.commands) effects) is found in
+    record { marks = record { founds = m.founds; are_found = m.are_found; breaks = m.breaks; other_format = m.other_format; ignored = m.ignored }; unbroken = unbroken r ws effects m }

@@ -1,4 +1,5 @@
--- The lists of subjects from which a line of `breaking` can come: it comes from the first of which some difference is about one.
+-- The lists of subjects from which a line of `breaking`, or that AVPs are ignored, can come: from the first of which some difference is
+-- about one.
 use Rattle.std.specs.Prelude.{ℕ, List, [], ◌∷◌, ◌++◌, Option, Some, None}
 use Rattle.std.specs.Option.{option_map_or}
 use Rattle.dia_wire.specs.declared.Key.{Key}
@@ -63,7 +64,13 @@ of_level r own other line =
     (named_rules r.between.sender r.side own line ++ named_rules r.between.receiver (other_side r.side) other line)
     ∷ of_avp r parts.Key line.key ∷ (Rules r.side own ∷ Rules (other_side r.side) other ∷ []) ∷ of_avp r parts.Avp line.key ∷ []
 
+-- of the AVPs of a key that the receiver ignores
+abbrev pub of_ignored : Route → Owner → Owner → Key → List (List Subject)
+of_ignored r own other key =
+    of_avp r parts.Key (Some key) ∷ rule_for r.between.sender r.side own (Some key) ∷ (Rules r.side own ∷ Rules (other_side r.side) other ∷ []) ∷ []
+
 abbrev pub candidates : Route → Origin → List (List Subject)
 candidates r (origins.Header own other field) = of_header r.side own other field
 candidates r (origins.Avp key field) = of_avp r (parts.Change field) (Some key) ∷ of_avp r parts.Avp (Some key) ∷ []
 candidates r (origins.Level own other line) = of_level r own other line
+candidates r (origins.Ignored own other key) = of_ignored r own other key

@@ -2,6 +2,7 @@ pub mod Subjects
 pub mod Origins
 pub mod Routes
 pub mod Candidates
+pub mod Ignored
 pub mod Marks
 pub mod Marked
 pub mod Unbroken

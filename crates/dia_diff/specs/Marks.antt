@@ -1,4 +1,4 @@
--- Which differences break messages.
+-- Which differences break messages, and which let AVPs be read as another format, or be ignored.
 use Rattle.std.specs.Prelude.{◌≡◌, ℕ, ◌+◌, zero, suc, Bool, true, List, [], ◌∷◌, ◌++◌, length, map, All, Option, Some, None, IfSome, IsSome, find}
 use Rattle.std.specs.List.{flat_map, list_any}
 use Rattle.dia_book.specs.Dictionary.{groups}
@@ -7,12 +7,16 @@ use Rattle.dia_valid.specs.Valid.{IsValid}
 use Rattle.dia_breaking_sites.specs.Sent.{IsSent}
 use Rattle.dia_breaking.specs.Sides.{Sides}
 use Rattle.dia_breaking.specs.TheLines.{HasTheLines}
+use Rattle.dia_breaking.specs.TheMeanings.{AreMeaningsOf}
 use Rattle.dia_breaking.specs.Words.{head_at}
 use Rattle.dia_breaking.specs.declared.line.Line.{Line as Breach}
+use Rattle.dia_differences.specs.declared.lines.Effects.{Effects}
 use Rattle.dia_differences.specs.declared.lines.Line.{Line}
 use Rattle.dia_differences.specs.declared.lines.What.{What}
+use Rattle.dia_diff.specs.declared.origins.Origin.{Origin}
 use Rattle.dia_diff.specs.declared.subjects.Subject.{Subject}
 use Rattle.dia_diff.specs.Candidates.{candidates}
+use Rattle.dia_diff.specs.Ignored.{ignored}
 use Rattle.dia_diff.specs.Origins.{Found, Route, origin}
 use Rattle.dia_diff.specs.Subjects.{same_subject, subjects}
 
@@ -39,21 +43,35 @@ is_of (Some list) w = list_any (has list) (subjects w)
 abbrev pub is_meant : (Subject → Bool) → List (List Subject) → What → Bool
 is_meant there lists w = is_of (find (list_any there) lists) w
 
--- what breaks a command comes from the difference
-abbrev pub comes_from : (Subject → Bool) → Route → Found → What → Breach → Bool
-comes_from there r f w breach = is_meant there (candidates r (origin r f breach)) w
+-- what is about this comes from the difference
+abbrev pub is_from : (Subject → Bool) → Route → What → Origin → Bool
+is_from there r w about = is_meant there (candidates r about) w
 
--- so for some line of `breaking` for the command
+abbrev pub comes_from : (Subject → Bool) → Route → Found → What → Breach → Bool
+comes_from there r f w breach = is_from there r w (origin r f breach)
+
+-- ---- one command
+
+-- some line of `breaking` comes from the difference
 abbrev pub breaks_by : (Subject → Bool) → Route → What → Found → Bool
 breaks_by there r w f = list_any (comes_from there r f w) f.answer.lines
 
+-- some line `meaning` of `breaking --meaning` does
+abbrev pub is_other_by : (Subject → Bool) → Route → What → Found → Bool
+is_other_by there r w f = list_any (comes_from there r f w) f.meanings
+
+-- AVPs are ignored by the difference
+abbrev pub ignores_by : (Subject → Bool) → Route → What → Found → Bool
+ignores_by there r w f = list_any (is_from there r w) (ignored r f)
+
 -- ---- all lines of `breaking`
 
--- these are the lines of `breaking` for a command of the sender
+-- these are the lines of `breaking --meaning` for a command of the sender
 pub record IsFound (s : Sides) (f : Found) : Type 0 where
   pub command : f.answer.command ≡ length (groups s.sender) + f.place
   pub head : IfSome (head_at s.sender f.answer.command) (λ own. (f.code ≡ own.code) × (f.class ≡ own.class))
   pub lines : IsSome (head_at s.sender f.answer.command) → HasTheLines s f.answer
+  pub meanings : IsSome (head_at s.sender f.answer.command) → AreMeaningsOf s f.answer f.meanings
 
 -- the places below a number
 abbrev pub places_below : ℕ → List ℕ
@@ -65,11 +83,13 @@ pub record AreFound (s : Sides) (count : ℕ) (founds : List Found) : Type 0 whe
   pub places : map (λ f. f.place) founds ≡ places_below count
   pub each : All (IsFound s) founds
 
--- each difference is marked from which a line of `breaking` comes, and no other
-pub record AreMarks (r : Route) (ws : List What) (is_marked : What → Bool) : Type 0 where
+-- what comes of each difference: messages break, AVPs are read as another format, or AVPs are ignored, of some command
+pub record AreMarks (r : Route) (ws : List What) (effects : What → Effects) : Type 0 where
   pub founds : List Found
   pub are_found : AreFound r.between (length r.between.sender.commands) founds
-  pub exact : (w : What) → is_marked w ≡ list_any (breaks_by (is_there ws) r w) founds
+  pub breaks : (w : What) → (effects w).breaks ≡ list_any (breaks_by (is_there ws) r w) founds
+  pub other_format : (w : What) → (effects w).other_format ≡ list_any (is_other_by (is_there ws) r w) founds
+  pub ignored : (w : What) → (effects w).ignored ≡ list_any (ignores_by (is_there ws) r w) founds
 
 -- ---- where nothing is marked
 

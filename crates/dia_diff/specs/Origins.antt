@@ -26,15 +26,16 @@ pub record Route : Type 0 where
   pub side : Side
   pub commands : List (Option ℕ)
 
--- what breaks the command at a place of the sender's, and the command's code and class
+-- what breaks the command at a place of the sender's, the AVPs that are read as another format, and the command's code and class
 pub record Found : Type 0 where
   pub place : ℕ
   pub answer : Answer
+  pub meanings : List Line
   pub code : ℕ
   pub class : Class
 
 abbrev pub found_of : ℕ → Breaks → Found
-found_of i breaks = record { place = i; answer = answer_of breaks; code = breaks.code; class = breaks.class }
+found_of i breaks = record { place = i; answer = answer_of breaks; meanings = breaks.meanings.items; code = breaks.code; class = breaks.class }
 
 -- the place of the command that a header selects (RFC 6733 section 3)
 abbrev pub command_for : Dictionary → ℕ → Class → ℕ → Option ℕ

@@ -4,10 +4,12 @@
 //! - Of a level: the rules for the line's AVP, or for the wildcard, and for the AVP that precedes; the code or vendor of the AVP; all
 //!   rules of the two definitions; all of the AVP.
 //! - Of an AVP by itself: the field that the line is about, its key, and AVPs that one dictionary alone has; all of the AVP.
+//! - Of AVPs that are ignored: their code or vendor; the sender's rule; all rules of the two definitions.
 
 ghost use Rattle.std.specs.Prelude.{◌≡◌, ◌∷◌, ◌++◌, IfOk, OnOk, Some, [], map};
 ghost use Rattle.std.specs.Option.{option_map_or};
-ghost use Rattle.dia_diff.specs.Candidates.{candidates, entry_for, named_rules, of_avp, of_header, of_level, part_at, part_of, rule_for};
+ghost use Rattle.dia_diff.specs.Candidates.{candidates, entry_for, named_rules, of_avp, of_header, of_ignored, of_level};
+ghost use Rattle.dia_diff.specs.Candidates.{part_at, part_of, rule_for};
 ghost use Rattle.dia_diff.specs.Routes.{route_of};
 ghost use Rattle.dia_differences.specs.Sides.{other_side};
 
@@ -46,6 +48,7 @@ pub(crate) fn candidates_of<A: Book, B: Book>(
         }
         Origin::Avp { key, field } => of_change(alloc, traffic, key, field),
         Origin::Level { own, other, line } => of_level(alloc, traffic, own, other, line),
+        Origin::Ignored { own, other, key } => of_ignored(alloc, traffic, own, other, key),
     }
 }
 
@@ -107,6 +110,22 @@ fn of_level<A: Book, B: Book>(
     let rules = all_rules(alloc, traffic.side, own, other)?;
     let avp = of_avp(alloc, traffic, Part::Avp, line.key)?;
     Ok(vec![in alloc; named, key, rules, avp]?)
+}
+
+fn of_ignored<A: Book, B: Book>(
+    alloc: Global,
+    traffic: &Traffic<'_, A, B>,
+    own: Owner,
+    other: Owner,
+    key: Key,
+) -> Result<Vec<Vec<Subject>>, AllocError>
+    ensures { IfOk result (λ lists. map (λ list. list.items) lists.items ≡ of_ignored (route_of A.meaning B.meaning traffic.now) own other key) }
+{
+    let code = of_avp(alloc, traffic, Part::Key, Some(key))?;
+    let mut rule = Vec::new(alloc);
+    push_rule(&mut rule, traffic.side, traffic.sender, own, Some(key))?;
+    let rules = all_rules(alloc, traffic.side, own, other)?;
+    Ok(vec![in alloc; code, rule, rules]?)
 }
 
 fn all_rules(

@@ -34,7 +34,7 @@ pub struct Asked {
 }
 
 /// Writes a line for each difference in meaning between the first dictionary, A, and the second, B, in their order; `same` where
-/// there is none, and ends with `Yes`. Each line ends with whether it breaks messages from A's side to B's, or the other way.
+/// there is none, and ends with `Yes`. Each line ends with what comes of it for messages from A's side to B's, and the other way.
 ///
 /// What is written is made first, and then written in whatever pieces the sink takes. `notes` gets what standard error is to say:
 /// nothing if memory is refused for it.

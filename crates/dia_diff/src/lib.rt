@@ -1,8 +1,9 @@
-//! The command `diff`: what differs in meaning between two dictionaries, and which difference breaks messages.
+//! The command `diff`: what differs in meaning between two dictionaries, and what comes of each difference.
 #![tactic(auto)]
 
 mod candidates;
 mod command;
+mod ignored;
 mod marked_lines;
 mod marking;
 mod marks;

@@ -2,20 +2,20 @@
 
 ghost use Rattle.std.specs.Prelude.{◌≡◌, ◌≢◌, IfOk, length, map};
 ghost use Rattle.dia_differences.specs.Partners.{matches_of, paired};
-ghost use Rattle.dia_diff.specs.Marked.{is_marked};
+ghost use Rattle.dia_diff.specs.Marked.{effects_by};
 ghost use Rattle.dia_diff.specs.MarkedLines.{AreMarkedLines, back_from, there_from, with_marks};
 ghost use Rattle.dia_diff.specs.Marks.{whats};
 ghost use Rattle.dia_diff.specs.Unbroken.{AreSoundMarks};
 
 use crate::command::Asked;
 use crate::marking::marks_of;
-use crate::marks::Marks;
+use crate::marks::EffectMarks;
 use crate::traffic::Traffic;
 use dia_book::Book;
 use dia_differences::{Line, Partners, Side};
 use std::alloc::{AllocError, Global};
 
-/// The lines, each with which messages it breaks.
+/// The lines, each with what comes of it.
 pub(crate) fn marked_lines<A: Book, B: Book>(
     alloc: Global,
     asked: Asked,
@@ -35,7 +35,7 @@ pub(crate) fn marked_lines<A: Book, B: Book>(
     marked(alloc, lines, &there, &back)
 }
 
-/// The lines from which it comes that messages of the first side break.
+/// What comes of the lines for messages of the first side.
 fn marks_there<A: Book, B: Book>(
     alloc: Global,
     asked: Asked,
@@ -43,10 +43,10 @@ fn marks_there<A: Book, B: Book>(
     b: &B,
     partners: &Partners,
     lines: &[Line],
-) -> Result<Marks, AllocError>
+) -> Result<EffectMarks, AllocError>
     requires { paired partners.now ≡ matches_of (A.meaning a.now) (B.meaning b.now) }
     ensures { IfOk result (λ marks. AreSoundMarks
-        (there_from (A.meaning a.now) (B.meaning b.now) asked.sends asked.unknown) (whats lines.now) (is_marked marks)) }
+        (there_from (A.meaning a.now) (B.meaning b.now) asked.sends asked.unknown) (whats lines.now) (effects_by marks)) }
 {
     let traffic = Traffic {
         sender: a,
@@ -59,7 +59,7 @@ fn marks_there<A: Book, B: Book>(
     marks_of(alloc, lines, &traffic)
 }
 
-/// The lines from which it comes that messages of the second side break.
+/// What comes of them for messages of the second side.
 fn marks_back<A: Book, B: Book>(
     alloc: Global,
     asked: Asked,
@@ -67,10 +67,10 @@ fn marks_back<A: Book, B: Book>(
     b: &B,
     partners: &Partners,
     lines: &[Line],
-) -> Result<Marks, AllocError>
+) -> Result<EffectMarks, AllocError>
     requires { paired partners.now ≡ matches_of (A.meaning a.now) (B.meaning b.now) }
     ensures { IfOk result (λ marks. AreSoundMarks
-        (back_from (A.meaning a.now) (B.meaning b.now) asked.sends asked.unknown) (whats lines.now) (is_marked marks)) }
+        (back_from (A.meaning a.now) (B.meaning b.now) asked.sends asked.unknown) (whats lines.now) (effects_by marks)) }
 {
     let traffic = Traffic {
         sender: b,
@@ -87,21 +87,21 @@ fn marks_back<A: Book, B: Book>(
 fn marked(
     alloc: Global,
     lines: &[Line],
-    there: &Marks,
-    back: &Marks,
+    there: &EffectMarks,
+    back: &EffectMarks,
 ) -> Result<Vec<Line>, AllocError>
     ensures { IfOk result (λ found. found.items
-        ≡ map (with_marks (is_marked there.now) (is_marked back.now)) lines.now) }
+        ≡ map (with_marks (effects_by there.now) (effects_by back.now)) lines.now) }
 {
     let mut found = Vec::with_capacity(alloc, lines.len())?;
     for line in lines {
         let what = line.what;
-        let is_there = there.has(alloc, what)?;
-        let is_back = back.has(alloc, what)?;
+        let first = there.effects_of(alloc, what)?;
+        let second = back.effects_of(alloc, what)?;
         found.push(Line {
             what,
-            there: is_there,
-            back: is_back,
+            there: first,
+            back: second,
         })?;
     }
     Ok(found)

@@ -1,19 +1,21 @@
-//! Which differences break messages: each line of `breaking` comes from the differences that it is about.
+//! What comes of differences: each line of `breaking`, and that AVPs are ignored, comes from the differences that it is about.
 
-ghost use Rattle.std.specs.Prelude.{◌≡◌, ◌<◌, ◌||◌, IfOk, OnOk, length, map};
+ghost use Rattle.std.specs.Prelude.{◌≡◌, ◌<◌, ◌||◌, IfOk, OnOk, length};
 ghost use Rattle.std.specs.HashSet.{contains};
+ghost use Rattle.std.specs.List.{list_any};
 ghost use Rattle.dia_breaking.specs.Upgrades.{sides_of};
 ghost use Rattle.dia_differences.specs.declared.lines.What.{What as AnyWhat};
-ghost use Rattle.dia_diff.specs.Marked.{is_marked};
-ghost use Rattle.dia_diff.specs.Marks.{IsFound, breaks_by, comes_from, whats};
+ghost use Rattle.dia_diff.specs.Marked.{effects_by, is_marked};
+ghost use Rattle.dia_diff.specs.Marks.{IsFound, breaks_by, comes_from, ignores_by, is_from, is_other_by, whats};
 ghost use Rattle.dia_diff.specs.Origins.{found_of};
 ghost use Rattle.dia_diff.specs.Routes.{route_of};
 ghost use Rattle.dia_diff.specs.Subjects.{same_subject};
 ghost use Rattle.dia_diff.specs.Unbroken.{AreSoundMarks, IsValidIfNone, MarksFound};
 
 use crate::candidates::candidates_of;
-use crate::marks::Marks;
-use crate::origins::origin_of;
+use crate::ignored::ignored_of;
+use crate::marks::{EffectMarks, Marks};
+use crate::origins::{Origin, origin_of};
 use crate::subjects::{Subject, all_subjects};
 use crate::traffic::Traffic;
 use dia_book::Book;
@@ -22,13 +24,13 @@ use dia_differences::Line;
 use std::alloc::{AllocError, Global};
 use std::collections::HashSet;
 
-/// The differences from which it comes that messages break.
+/// What comes of the differences.
 pub(crate) fn marks_of<A: Book, B: Book>(
     alloc: Global,
     lines: &[Line],
     traffic: &Traffic<'_, A, B>,
-) -> Result<Marks, AllocError>
-    ensures { IfOk result (λ marks. AreSoundMarks (route_of A.meaning B.meaning traffic.now) (whats lines.now) (is_marked marks)) }
+) -> Result<EffectMarks, AllocError>
+    ensures { IfOk result (λ marks. AreSoundMarks (route_of A.meaning B.meaning traffic.now) (whats lines.now) (effects_by marks)) }
 {
     let present = all_subjects(alloc, lines)?;
     let upgrade = Upgrade::new(
@@ -47,15 +49,15 @@ fn marks_by<A: Book, B: Book>(
     present: &HashSet<Subject>,
     traffic: &Traffic<'_, A, B>,
     upgrade: &Upgrade<'_, A, B>,
-) -> Result<Marks, AllocError>
+) -> Result<EffectMarks, AllocError>
     requires { sides_of upgrade.now ≡ (route_of A.meaning B.meaning traffic.now).between }
     ensures { IfOk result (λ marks. MarksFound (contains same_subject present.now) (route_of A.meaning B.meaning traffic.now)
-        (length (route_of A.meaning B.meaning traffic.now).between.sender.commands) (is_marked marks)) }
+        (length (route_of A.meaning B.meaning traffic.now).between.sender.commands) (effects_by marks)) }
 {
-    let mut marks = Marks::new(alloc);
+    let mut marks = EffectMarks::new(alloc);
     for index in 0..traffic.sender.commands() {
         let breaks = breaks_of(alloc, upgrade, index)?;
-        mark_breaks(alloc, &mut marks, present, traffic, index, &breaks)?;
+        mark_command(alloc, &mut marks, present, traffic, index, &breaks)?;
     }
     Ok(marks)
 }
@@ -75,38 +77,107 @@ fn breaks_of<A: Book, B: Book>(
     upgrade.breaks(alloc, command, &mut left)
 }
 
-/// Marks the differences from which what breaks a command comes.
-fn mark_breaks<A: Book, B: Book>(
+/// Marks the differences from which it comes that messages of a command break, that AVPs are read as another format, and that AVPs
+/// are ignored.
+fn mark_command<A: Book, B: Book>(
+    alloc: Global,
+    marks: &mut EffectMarks,
+    present: &HashSet<Subject>,
+    traffic: &Traffic<'_, A, B>,
+    index: usize,
+    breaks: &Breaks,
+) -> Result<(), AllocError>
+    ensures breaks { OnOk result ((w : AnyWhat) → is_marked marks.new.breaks w ≡ (is_marked marks.old.breaks w
+        || breaks_by (contains same_subject present.now) (route_of A.meaning B.meaning traffic.now) w (found_of index breaks.now))) }
+    ensures other_format { OnOk result ((w : AnyWhat) → is_marked marks.new.other_format w ≡ (is_marked marks.old.other_format w
+        || is_other_by (contains same_subject present.now) (route_of A.meaning B.meaning traffic.now) w (found_of index breaks.now))) }
+    ensures ignored { OnOk result ((w : AnyWhat) → is_marked marks.new.ignored w ≡ (is_marked marks.old.ignored w
+        || ignores_by (contains same_subject present.now) (route_of A.meaning B.meaning traffic.now) w (found_of index breaks.now))) }
+{
+    mark_lines(
+        alloc,
+        &mut marks.breaks,
+        present,
+        traffic,
+        index,
+        breaks,
+        &breaks.lines,
+    )?;
+    mark_lines(
+        alloc,
+        &mut marks.other_format,
+        present,
+        traffic,
+        index,
+        breaks,
+        &breaks.meanings,
+    )?;
+    mark_ignored(alloc, &mut marks.ignored, present, traffic, index, breaks)
+}
+
+/// Marks the differences from which some lines of a command come.
+fn mark_lines<A: Book, B: Book>(
     alloc: Global,
     marks: &mut Marks,
     present: &HashSet<Subject>,
     traffic: &Traffic<'_, A, B>,
     index: usize,
     breaks: &Breaks,
+    lines: &[Breach],
 ) -> Result<(), AllocError>
     ensures { OnOk result ((w : AnyWhat) → is_marked marks.new w ≡ (is_marked marks.old w
-        || breaks_by (contains same_subject present.now) (route_of A.meaning B.meaning traffic.now) w (found_of index breaks.now))) }
+        || list_any (comes_from (contains same_subject present.now) (route_of A.meaning B.meaning traffic.now) (found_of index breaks.now) w) lines.now)) }
 {
-    let lines = breaks.lines.as_slice();
     for breach in lines {
-        mark_breach(alloc, marks, present, traffic, index, breaks, breach)?;
+        let origin = origin_of(traffic, index, breaks, breach);
+        mark(alloc, marks, present, traffic, origin)?;
     }
     Ok(())
 }
 
-fn mark_breach<A: Book, B: Book>(
+/// Marks the differences by which AVPs of a command are ignored.
+fn mark_ignored<A: Book, B: Book>(
     alloc: Global,
     marks: &mut Marks,
     present: &HashSet<Subject>,
     traffic: &Traffic<'_, A, B>,
     index: usize,
     breaks: &Breaks,
-    breach: &Breach,
 ) -> Result<(), AllocError>
     ensures { OnOk result ((w : AnyWhat) → is_marked marks.new w ≡ (is_marked marks.old w
-        || comes_from (contains same_subject present.now) (route_of A.meaning B.meaning traffic.now) (found_of index breaks.now) w breach.now)) }
+        || ignores_by (contains same_subject present.now) (route_of A.meaning B.meaning traffic.now) w (found_of index breaks.now))) }
 {
-    let origin = origin_of(traffic, index, breaks, breach);
+    let origins = ignored_of(alloc, traffic, index, breaks)?;
+    mark_all(alloc, marks, present, traffic, &origins)
+}
+
+fn mark_all<A: Book, B: Book>(
+    alloc: Global,
+    marks: &mut Marks,
+    present: &HashSet<Subject>,
+    traffic: &Traffic<'_, A, B>,
+    origins: &[Origin],
+) -> Result<(), AllocError>
+    ensures { OnOk result ((w : AnyWhat) → is_marked marks.new w ≡ (is_marked marks.old w
+        || list_any (is_from (contains same_subject present.now) (route_of A.meaning B.meaning traffic.now) w) origins.now)) }
+{
+    for origin in origins {
+        mark(alloc, marks, present, traffic, *origin)?;
+    }
+    Ok(())
+}
+
+/// Marks the differences from which what is about this comes.
+fn mark<A: Book, B: Book>(
+    alloc: Global,
+    marks: &mut Marks,
+    present: &HashSet<Subject>,
+    traffic: &Traffic<'_, A, B>,
+    origin: Origin,
+) -> Result<(), AllocError>
+    ensures { OnOk result ((w : AnyWhat) → is_marked marks.new w ≡ (is_marked marks.old w
+        || is_from (contains same_subject present.now) (route_of A.meaning B.meaning traffic.now) w origin)) }
+{
     let lists = candidates_of(alloc, traffic, origin)?;
     marks.mark(present, &lists)
 }

@@ -1,16 +1,17 @@
-//! The differences from which it comes that messages break.
+//! The differences from which something comes.
 
 ghost use Rattle.std.specs.Prelude.{◌≡◌, ◌||◌, IfOk, OnOk, find, false, map};
 ghost use Rattle.std.specs.HashSet.{contains};
 ghost use Rattle.std.specs.List.{list_any};
 ghost use Rattle.std.specs.Option.{option_map};
 ghost use Rattle.dia_differences.specs.declared.lines.What.{What as AnyWhat};
-ghost use Rattle.dia_diff.specs.Marked.{is_marked};
+ghost use Rattle.dia_differences.specs.Lines.{no_effects};
+ghost use Rattle.dia_diff.specs.Marked.{effects_by, is_marked};
 ghost use Rattle.dia_diff.specs.Marks.{is_meant};
 ghost use Rattle.dia_diff.specs.Subjects.{same_subject};
 
 use crate::subjects::{Subject, any_of, put_all, subjects_of};
-use dia_differences::What;
+use dia_differences::{Effects, What};
 use std::alloc::{AllocError, Global};
 use std::collections::HashSet;
 
@@ -50,12 +51,44 @@ impl Marks {
         }
     }
 
-    /// Whether it is one of them.
-    pub fn has(&self, alloc: Global, what: What) -> Result<bool, AllocError>
-        ensures { IfOk result (λ has. has ≡ is_marked self.now what) }
+    /// Whether a difference about these is one of them.
+    fn has(&self, subjects: &[Subject]) -> bool
+        ensures { result ≡ (self.now.all || list_any (contains same_subject self.now.subjects) subjects.now) }
+    {
+        self.all || any_of(&self.subjects, subjects)
+    }
+}
+
+/// Differences, by what comes of them.
+#[derive(Drop)]
+pub(crate) struct EffectMarks {
+    pub breaks: Marks,
+    pub other_format: Marks,
+    pub ignored: Marks,
+}
+
+impl EffectMarks {
+    /// No differences.
+    pub fn new(alloc: Global) -> Self
+        ensures { (w : AnyWhat) → effects_by result w ≡ no_effects }
+    {
+        EffectMarks {
+            breaks: Marks::new(alloc),
+            other_format: Marks::new(alloc),
+            ignored: Marks::new(alloc),
+        }
+    }
+
+    /// What comes of a difference.
+    pub fn effects_of(&self, alloc: Global, what: What) -> Result<Effects, AllocError>
+        ensures { IfOk result (λ effects. effects ≡ effects_by self.now what) }
     {
         let subjects = subjects_of(alloc, what)?;
-        Ok(self.all || any_of(&self.subjects, &subjects))
+        Ok(Effects {
+            breaks: self.breaks.has(&subjects),
+            other_format: self.other_format.has(&subjects),
+            ignored: self.ignored.has(&subjects),
+        })
     }
 }
 

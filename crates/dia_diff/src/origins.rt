@@ -1,4 +1,4 @@
-//! What the lines of `breaking` are about.
+//! What the lines of `breaking`, and AVPs that are ignored, are about.
 
 ghost use Rattle.std.specs.Prelude.{◌≡◌, Some, nat_eq, slice_get};
 ghost use Rattle.std.specs.Option.{option_eq};
@@ -13,7 +13,7 @@ use dia_breaking_levels::Line as LevelLine;
 use dia_differences::{AvpField, HeadField, Owner};
 use dia_wire::Key;
 
-/// What a line of `breaking` is about.
+/// What a line of `breaking`, or that AVPs are ignored, is about.
 #[derive(Clone, Copy)]
 pub(crate) enum Origin {
     /// The headers of commands, by their places: the sender's, and the receiver's that reads the message, if one does.
@@ -32,6 +32,12 @@ pub(crate) enum Origin {
     Avp {
         key: Key,
         field: AvpField,
+    },
+    /// AVPs of a level that the sender's definition lists and the receiver's doesn't.
+    Ignored {
+        own: Owner,
+        other: Owner,
+        key: Key,
     },
 }
 
@@ -70,7 +76,7 @@ fn place_at(sites: &[Site], site: usize) -> Option<Place>
     }
 }
 
-fn header(own: usize, other: Option<usize>, field: Option<HeadField>) -> Origin
+pub(crate) fn header(own: usize, other: Option<usize>, field: Option<HeadField>) -> Origin
     ensures { result ≡ Origin.Header own other field }
 {
     Origin::Header { own, other, field }
@@ -139,7 +145,7 @@ fn command_level(
     }
 }
 
-fn corresponds(commands: &[Option<usize>], own: usize, other: usize) -> bool
+pub(crate) fn corresponds(commands: &[Option<usize>], own: usize, other: usize) -> bool
     ensures { result ≡ option_eq (option_eq nat_eq) (slice_get commands.now own) (Some (Some other)) }
 {
     commands.get(own).copied() == Some(Some(other))
@@ -158,7 +164,7 @@ fn reader_of<D: Book>(receiver: &D, breaks: &Breaks, place: Option<Place>) -> Op
 }
 
 /// The place of the command that is selected for messages of a code, a class and an application.
-fn selected_place<D: Book>(book: &D, code: u32, class: Class, app: u32) -> Option<usize>
+pub(crate) fn selected_place<D: Book>(book: &D, code: u32, class: Class, app: u32) -> Option<usize>
     ensures { result ≡ command_for (D.meaning book.now) code class app }
 {
     let def = book.select(code, class, app)?;

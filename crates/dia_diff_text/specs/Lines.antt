@@ -1,7 +1,8 @@
 -- The lines, as text and as JSON (RFC 8259).
-use Rattle.std.specs.Prelude.{◌≡◌, ℕ, Bool, true, false, if◌then◌else◌, List, [], ◌∷◌, ◌++◌, Option, Some, None, codes}
+use Rattle.std.specs.Prelude.{◌≡◌, ℕ, Bool, true, false, ◌||◌, if◌then◌else◌, List, [], ◌∷◌, ◌++◌, Option, Some, None, codes}
 use Rattle.std.specs.Str.{bytes_eq}
 use Rattle.dia_book.specs.Dictionary.{Dictionary}
+use Rattle.dia_differences.specs.declared.lines.Effects.{Effects}
 use Rattle.dia_differences.specs.declared.lines.Line.{Line}
 use Rattle.dia_differences.specs.declared.sides.Side.TheVariants as sides
 use Rattle.dia_diff_text.specs.Parts.{IsSide, field_of, is_command, name_in, rule_field, subject_of}
@@ -13,8 +14,8 @@ pub record LineParts : Type 0 where
   pub field : Option (List ℕ)
   pub first : Option (List ℕ)
   pub second : Option (List ℕ)
-  pub there : Bool
-  pub back : Bool
+  pub there : Effects
+  pub back : Effects
 
 -- what one dictionary alone has is removed or added
 abbrev pub sign_word : Option (List ℕ) → Option (List ℕ) → List ℕ
@@ -39,17 +40,28 @@ values_words (Some first) None = first
 values_words None (Some second) = second
 values_words (Some first) (Some second) = first ++ codes " -> " ++ second
 
-abbrev pub breaks_words : Bool → Bool → List ℕ
-breaks_words true true = codes "; breaks A to B, breaks B to A"
-breaks_words true false = codes "; breaks A to B"
-breaks_words false true = codes "; breaks B to A"
-breaks_words false false = []
+-- what precedes the first effect, and another
+abbrev pub before_effect : Bool → List ℕ
+before_effect false = codes "; "
+before_effect true = codes ", "
+
+-- an effect, in each direction that has it
+abbrev pub effect_words : (others : Bool) (word : List ℕ) (there back : Bool) → List ℕ
+effect_words others word true true = before_effect others ++ word ++ codes " A to B, " ++ word ++ codes " B to A"
+effect_words others word true false = before_effect others ++ word ++ codes " A to B"
+effect_words others word false true = before_effect others ++ word ++ codes " B to A"
+effect_words others word false false = []
+
+abbrev pub effects_words : Effects → Effects → List ℕ
+effects_words there back =
+    effect_words false (codes "breaks") there.breaks back.breaks ++ effect_words (there.breaks || back.breaks) (codes "read as another format") there.other_format back.other_format
+    ++ effect_words ((there.breaks || back.breaks) || (there.other_format || back.other_format)) (codes "ignored") there.ignored back.ignored
 
 abbrev pub start_words : LineParts → List ℕ
 start_words p = sign_word p.first p.second ++ codes " " ++ kind_word p.is_command ++ codes " " ++ p.name
 
 abbrev pub text_line : LineParts → List ℕ
-text_line p = start_words p ++ field_words p.field ++ values_words p.first p.second ++ (breaks_words p.there p.back ++ codes "\n")
+text_line p = start_words p ++ field_words p.field ++ values_words p.first p.second ++ (effects_words p.there p.back ++ codes "\n")
 
 -- ---- as JSON
 
@@ -61,17 +73,25 @@ abbrev pub member_words : List ℕ → Option (List ℕ) → List ℕ
 member_words name None = []
 member_words name (Some value) = codes ",\"" ++ name ++ codes "\":\"" ++ value ++ codes "\""
 
-abbrev pub json_breaks : Bool → Bool → List ℕ
-json_breaks true true = codes ",\"breaks\":[\"A to B\",\"B to A\"]}\n"
-json_breaks true false = codes ",\"breaks\":[\"A to B\"]}\n"
-json_breaks false true = codes ",\"breaks\":[\"B to A\"]}\n"
-json_breaks false false = codes ",\"breaks\":[]}\n"
+abbrev pub json_directions : Bool → Bool → List ℕ
+json_directions true true = codes "\"A to B\",\"B to A\""
+json_directions true false = codes "\"A to B\""
+json_directions false true = codes "\"B to A\""
+json_directions false false = []
+
+abbrev pub json_effect : List ℕ → Bool → Bool → List ℕ
+json_effect name there back = codes ",\"" ++ name ++ codes "\":[" ++ json_directions there back ++ codes "]"
+
+abbrev pub json_effects : Effects → Effects → List ℕ
+json_effects there back =
+    json_effect (codes "breaks") there.breaks back.breaks ++ json_effect (codes "other_format") there.other_format back.other_format ++ json_effect (codes "ignored") there.ignored back.ignored
+    ++ codes "}\n"
 
 abbrev pub json_start : LineParts → List ℕ
 json_start p = codes "{\"sign\":\"" ++ sign_word p.first p.second ++ codes "\",\"kind\":\"" ++ json_kind p.is_command ++ codes "\",\"name\":\"" ++ p.name ++ codes "\""
 
 abbrev pub json_line : LineParts → List ℕ
-json_line p = json_start p ++ member_words (codes "field") p.field ++ member_words (codes "first") p.first ++ member_words (codes "second") p.second ++ json_breaks p.there p.back
+json_line p = json_start p ++ member_words (codes "field") p.field ++ member_words (codes "first") p.first ++ member_words (codes "second") p.second ++ json_effects p.there p.back
 
 -- ---- of a line
 
@@ -90,7 +110,7 @@ parts_by a b line first second = record {
   back = line.back;
 }
 
--- its words in A and in B, and whether it breaks messages
+-- its words in A and in B, and what comes of it
 abbrev pub IsLineParts : Dictionary → Dictionary → Line → LineParts → Type 0
 IsLineParts a b line p =
     IsSide a sides.First line.what p.first × IsSide b sides.Second line.what p.second × (p ≡ parts_by a b line p.first p.second)

@@ -1,11 +1,13 @@
 //! Lines as JSON objects (RFC 8259). Names and words are of ASCII without quotes and backslashes, and need no escapes.
 ghost use Rattle.std.specs.Prelude.{◌≡◌, ◌++◌, OnOk, Some, codes, string_bytes};
 ghost use Rattle.std.specs.Option.{option_map};
-ghost use Rattle.dia_diff_text.specs.Lines.{json_breaks, json_kind, json_line, json_start, member_words};
+ghost use Rattle.dia_diff_text.specs.Lines.{json_directions, json_effect, json_effects, json_kind, json_line, json_start};
+ghost use Rattle.dia_diff_text.specs.Lines.{member_words};
 ghost use Rattle.dia_diff_text.specs.Plain.{plain_parts};
 
 use crate::parts::Parts;
 use crate::writing::sign;
+use dia_differences::Effects;
 use std::alloc::AllocError;
 
 /// Adds the object of a line.
@@ -16,7 +18,7 @@ pub(crate) fn push_object(out: &mut String, parts: &Parts<'_>) -> Result<(), All
     push_field(out, parts.field)?;
     push_words(out, "first", &parts.first)?;
     push_words(out, "second", &parts.second)?;
-    push_breaks(out, parts.there, parts.back)
+    push_effects(out, parts.there, parts.back)
 }
 
 fn push_start(out: &mut String, parts: &Parts<'_>) -> Result<(), AllocError>
@@ -68,19 +70,34 @@ fn push_member(out: &mut String, member: &str, value: &str) -> Result<(), AllocE
     out.push_str("\"")
 }
 
-fn push_breaks(out: &mut String, there: bool, back: bool) -> Result<(), AllocError>
-    ensures { OnOk result (string_bytes out.new ≡ string_bytes out.old ++ json_breaks there back) }
+fn push_effects(out: &mut String, there: Effects, back: Effects) -> Result<(), AllocError>
+    ensures { OnOk result (string_bytes out.new
+        ≡ string_bytes out.old ++ json_effects there back) }
 {
-    out.push_str(breaks(there, back))
+    push_effect(out, "breaks", there.breaks, back.breaks)?;
+    push_effect(out, "other_format", there.other_format, back.other_format)?;
+    push_effect(out, "ignored", there.ignored, back.ignored)?;
+    out.push_str("}\n")
 }
 
-fn breaks(there: bool, back: bool) -> &'static str
-    ensures { result.now ≡ json_breaks there back }
+fn push_effect(out: &mut String, name: &str, there: bool, back: bool) -> Result<(), AllocError>
+    ensures { OnOk result (string_bytes out.new
+        ≡ string_bytes out.old ++ json_effect name.now there back) }
+{
+    out.push_str(",\"")?;
+    out.push_str(name)?;
+    out.push_str("\":[")?;
+    out.push_str(directions(there, back))?;
+    out.push_str("]")
+}
+
+fn directions(there: bool, back: bool) -> &'static str
+    ensures { result.now ≡ json_directions there back }
 {
     match (there, back) {
-        (true, true) => ",\"breaks\":[\"A to B\",\"B to A\"]}\n",
-        (true, false) => ",\"breaks\":[\"A to B\"]}\n",
-        (false, true) => ",\"breaks\":[\"B to A\"]}\n",
-        (false, false) => ",\"breaks\":[]}\n",
+        (true, true) => "\"A to B\",\"B to A\"",
+        (true, false) => "\"A to B\"",
+        (false, true) => "\"B to A\"",
+        (false, false) => "",
     }
 }

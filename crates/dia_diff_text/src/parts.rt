@@ -8,7 +8,7 @@ ghost use Rattle.dia_diff_text.specs.Parts.{avp_word, field_of, head_word, is_co
 
 use crate::sides::words_in;
 use dia_book::Book;
-use dia_differences::{AvpField, HeadField, Line, Owner, Side, What};
+use dia_differences::{AvpField, Effects, HeadField, Line, Owner, Side, What};
 use std::alloc::{AllocError, Global};
 
 /// What a line says.
@@ -24,10 +24,10 @@ pub(crate) struct Parts<'d> {
     pub first: Option<String>,
     /// The words of the second dictionary.
     pub second: Option<String>,
-    /// Whether messages of the first side break.
-    pub there: bool,
-    /// Whether those of the second do.
-    pub back: bool,
+    /// What comes of messages of the first side.
+    pub there: Effects,
+    /// What comes of those of the second.
+    pub back: Effects,
 }
 
 /// The field of a rule.

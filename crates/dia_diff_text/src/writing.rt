@@ -1,10 +1,12 @@
 //! Lines in words.
 ghost use Rattle.std.specs.Prelude.{◌≡◌, ◌++◌, OnOk, Some, codes, string_bytes};
 ghost use Rattle.std.specs.Option.{option_map};
-ghost use Rattle.dia_diff_text.specs.Lines.{breaks_words, field_words, kind_word, sign_word, start_words, text_line, values_words};
+ghost use Rattle.dia_diff_text.specs.Lines.{before_effect, effect_words, effects_words, field_words, kind_word, sign_word, start_words};
+ghost use Rattle.dia_diff_text.specs.Lines.{text_line, values_words};
 ghost use Rattle.dia_diff_text.specs.Plain.{plain_parts};
 
 use crate::parts::{Parts, RULE};
+use dia_differences::Effects;
 use std::alloc::AllocError;
 
 /// Adds a line, as `~ AVP Vendor-Specific-Application-Id: { Vendor-Id } 1..* -> { Vendor-Id } 1; breaks A to B`.
@@ -85,21 +87,46 @@ fn push_word(out: &mut String, word: &str) -> Result<(), AllocError>
     out.push_str(" ")
 }
 
-fn push_ending(out: &mut String, there: bool, back: bool) -> Result<(), AllocError>
+fn push_ending(out: &mut String, there: Effects, back: Effects) -> Result<(), AllocError>
     ensures { OnOk result (string_bytes out.new
-        ≡ string_bytes out.old ++ (breaks_words there back ++ codes "\n")) }
+        ≡ string_bytes out.old ++ (effects_words there back ++ codes "\n")) }
 {
-    out.push_str(ending(there, back))?;
+    let breaks = there.breaks || back.breaks;
+    let others = breaks || (there.other_format || back.other_format);
+    push_effect(out, false, "breaks", there.breaks, back.breaks)?;
+    push_effect(
+        out,
+        breaks,
+        "read as another format",
+        there.other_format,
+        back.other_format,
+    )?;
+    push_effect(out, others, "ignored", there.ignored, back.ignored)?;
     out.push_str("\n")
 }
 
-fn ending(there: bool, back: bool) -> &'static str
-    ensures { result.now ≡ breaks_words there back }
+/// Adds an effect, in each direction that has it.
+fn push_effect(
+    out: &mut String,
+    others: bool,
+    word: &str,
+    there: bool,
+    back: bool,
+) -> Result<(), AllocError>
+    ensures { OnOk result (string_bytes out.new
+        ≡ string_bytes out.old ++ effect_words others word.now there back) }
 {
+    let before = before_effect(others);
     match (there, back) {
-        (true, true) => "; breaks A to B, breaks B to A",
-        (true, false) => "; breaks A to B",
-        (false, true) => "; breaks B to A",
-        (false, false) => "",
+        (true, true) => write!(out, "{before}{word} A to B, {word} B to A"),
+        (true, false) => write!(out, "{before}{word} A to B"),
+        (false, true) => write!(out, "{before}{word} B to A"),
+        (false, false) => Ok(()),
     }
+}
+
+fn before_effect(others: bool) -> &'static str
+    ensures { result.now ≡ before_effect others }
+{
+    if others { ", " } else { "; " }
 }

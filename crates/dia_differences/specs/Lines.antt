@@ -7,6 +7,7 @@ use Rattle.dia_differences.specs.declared.owner.Owner.TheVariants as owners
 use Rattle.dia_differences.specs.Owners.{rules_of}
 use Rattle.dia_differences.specs.declared.lines.AvpField.{AvpField}
 use Rattle.dia_differences.specs.declared.lines.AvpField.TheVariants as avps
+use Rattle.dia_differences.specs.declared.lines.Effects.{Effects}
 use Rattle.dia_differences.specs.declared.lines.HeadField.{HeadField}
 use Rattle.dia_differences.specs.declared.lines.HeadField.TheVariants as heads
 use Rattle.dia_differences.specs.declared.lines.Line.{Line}
@@ -145,9 +146,12 @@ AreDifferences a b = AreLinesBy a b (matches_of a b)
 
 -- ---- lines
 
--- a difference that isn't known to break messages
+abbrev pub no_effects : Effects
+no_effects = record { breaks = false; other_format = false; ignored = false }
+
+-- a difference of which nothing is known to come
 abbrev pub unmarked : What → Line
-unmarked w = record { what = w; there = false; back = false }
+unmarked w = record { what = w; there = no_effects; back = no_effects }
 
 -- the lines of R are added
 abbrev pub Adds : List Line → List Line → (List What → Type 0) → Type 0

@@ -19,7 +19,7 @@ mod sides;
 pub use counts::push_counts;
 pub use headers::{Selector, pxy_of, selector_of};
 pub use laws::{one_list, same_messages};
-pub use lines::{AvpField, HeadField, Line, RulePlace, What};
+pub use lines::{AvpField, Effects, HeadField, Line, RulePlace, What};
 pub use listing::lines_of;
 pub use owner::Owner;
 pub use partners::{Pairs, Partners};

@@ -1,6 +1,6 @@
 //! The lines: what differs.
 ghost use Rattle.std.specs.Prelude.{◌≡◌, ◌∷◌, ◌++◌, OnOk, [], if◌then◌else◌};
-ghost use Rattle.dia_differences.specs.Lines.{unmarked};
+ghost use Rattle.dia_differences.specs.Lines.{no_effects, unmarked};
 
 use crate::owner::Owner;
 use crate::sides::Side;
@@ -64,25 +64,48 @@ pub enum What {
     },
 }
 
-/// A difference, and whether it breaks messages.
+/// What comes of a difference where one side reads what the other sends.
+#[derive(Clone, Copy, PartialEq, Eq)]
+pub struct Effects {
+    /// Messages break.
+    pub breaks: bool,
+    /// AVPs are accepted, and read as another format.
+    pub other_format: bool,
+    /// AVPs that a rule of the sender lists are accepted by a wildcard alone.
+    pub ignored: bool,
+}
+
+impl Effects {
+    pub fn none() -> Effects
+        ensures { result ≡ no_effects }
+    {
+        Effects {
+            breaks: false,
+            other_format: false,
+            ignored: false,
+        }
+    }
+}
+
+/// A difference, and what comes of it.
 #[derive(Clone, Copy, PartialEq, Eq)]
 pub struct Line {
     pub what: What,
-    /// Messages of the first side, which the second reads.
-    pub there: bool,
-    /// Messages of the second side, which the first reads.
-    pub back: bool,
+    /// Of messages of the first side, which the second reads.
+    pub there: Effects,
+    /// Of messages of the second side, which the first reads.
+    pub back: Effects,
 }
 
 impl Line {
-    /// A line that breaks nothing so far.
+    /// A line of which nothing comes so far.
     pub fn new(what: What) -> Line
         ensures { result ≡ unmarked what }
     {
         Line {
             what,
-            there: false,
-            back: false,
+            there: Effects::none(),
+            back: Effects::none(),
         }
     }
 }

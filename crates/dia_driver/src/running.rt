@@ -5,11 +5,11 @@ ghost use Rattle.dia_cli.specs.Ending.{ShowsHelp, stream};
 ghost use Rattle.dia_driver.specs.Tasks.{world};
 ghost use Rattle.dia_driver.specs.Program.{Fails, IsFailed, IsProcessOutcome, IsProgramOutcome, Refuses, streams};
 
-use crate::advice::{is_unread, means_base};
+use crate::advice::{hint_of, is_unread};
 use crate::built::version;
 use crate::performing::answer;
 use crate::tasks::Tasks;
-use dia_cli::{BASE_DICTIONARY, Ending, Opener, advised, finish, parse_words, report_error};
+use dia_cli::{Ending, Opener, advised, finish, parse_words, report_error};
 use dia_io::{Sink, ToWriter};
 use std::alloc::Global;
 use std::env;
@@ -107,8 +107,8 @@ where
         return FAILED;
     }
     let status = report_error(rt.alloc(), ending, err);
-    if !quiet && means_base(ending) {
-        let _ = eprint!(rt; "hint: did you mean {BASE_DICTIONARY}?\n");
+    if !quiet {
+        let _ = rt.eprint(hint_of(ending));
     }
     status
 }

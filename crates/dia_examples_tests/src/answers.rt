@@ -102,7 +102,7 @@ fn ends_as_it_should(rt: HostRuntime) {
         &names,
         Some("examples: no command V\n"),
         Exit::Bad,
-        "",
+        "hint: the commands are T\n",
     );
 }
 

@@ -12,9 +12,10 @@ ghost use Rattle.dia_run.specs.Texts.{IsDictionaryText};
 
 use crate::forms::Form;
 use crate::lines::Writing;
-use crate::naming::{places_of, unknown_note};
+use crate::naming::places_of;
 use crate::tally::Tally;
 use dia_dict::Book;
+use dia_explain_places::unknown_command;
 use dia_io::{Exit, Input, Inputs, RunFault, Sink, put_all};
 use dia_refused_json::{bad_input_line, quoted};
 use dia_report::{BadInput, Refused, Report, Reported};
@@ -101,7 +102,7 @@ pub fn examples_of<B: Book, S: Sink>(
     match places_of(alloc, book, commands)? {
         Ok(places) => put_vectors(alloc, book, unknown, form, &places, notes, sink),
         Err(name) => {
-            if let Ok(said) = unknown_note(alloc, book, name) {
+            if let Ok(said) = unknown_command(alloc, book, name) {
                 *notes = said;
             }
             let text = no_command_text(alloc, form, name)?;

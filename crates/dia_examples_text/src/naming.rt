@@ -1,7 +1,6 @@
 //! The commands that are asked for.
 
 use dia_dict::Book;
-use dia_explain_places::{Note, nearest_command};
 use indexmap::IndexSet;
 use std::alloc::{AllocError, Global};
 
@@ -26,42 +25,6 @@ pub(crate) fn places_of<'n, B: Book>(
         }
     }
     Ok(Ok(places))
-}
-
-/// What is meant by a name that no command has: an AVP, or the command with the nearest name.
-pub(crate) fn unknown_note<B: Book>(
-    alloc: Global,
-    book: &B,
-    name: &str,
-) -> Result<String, AllocError> {
-    let mut note = Note::new(alloc);
-    if is_avp(book, name) {
-        note.put_all(&[
-            "hint: ",
-            name,
-            " is an AVP there, and commands are asked for\n",
-        ]);
-    } else if let Some(near) = nearest_command(name, &command_names(alloc, book)?) {
-        note.put_all(&["hint: did you mean ", near, "?\n"]);
-    }
-    note.finish()
-}
-
-fn is_avp<B: Book>(book: &B, name: &str) -> bool {
-    for index in 0..book.entries() {
-        if book.entry_name(book.entry_at(index)) == name {
-            return true;
-        }
-    }
-    false
-}
-
-fn command_names<B: Book>(alloc: Global, book: &B) -> Result<Vec<&str>, AllocError> {
-    let mut names = Vec::new(alloc);
-    for index in 0..book.commands() {
-        names.push(book.def(book.command_at(index)).name.as_str())?;
-    }
-    Ok(names)
 }
 
 /// The names of the commands, each at its place.

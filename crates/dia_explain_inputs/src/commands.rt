@@ -1,13 +1,9 @@
 //! Names of commands that the first dictionary doesn't have.
 
-use crate::names::{Named, NamedSource, Vocabulary};
+use crate::names::{Named, NamedSource, Vocabulary, names_of};
 use crate::sides::{first_of, second_of};
-use dia_ccf::Def;
-use dia_explain_places::{InputTexts, Note};
+use dia_explain_places::{InputTexts, Note, put_listed};
 use dia_report::BothBooks;
-
-/// The most commands of a dictionary that are listed.
-const MOST_LISTED: usize = 30;
 
 /// The most names that are reported, and that are looked for in the second dictionary.
 const MOST: usize = 50;
@@ -23,7 +19,7 @@ pub fn push_unknown_commands(
     match Vocabulary::of(note.allocator(), &first) {
         Ok(known) => {
             if push_all_missing(note, &known, names) > 0 {
-                push_list(note, first.name, &first.source.commands);
+                push_list(note, &first);
                 let looked_for = names.get(..MOST).unwrap_or(names);
                 push_found(note, looked_for, &known, &second_of(texts, books));
             }
@@ -48,23 +44,20 @@ fn push_all_missing(note: &mut Note, known: &Vocabulary<'_>, names: &[String]) -
 }
 
 /// Adds the first commands, and how to list all.
-fn push_list(note: &mut Note, dictionary: &str, commands: &[Def]) {
-    if commands.is_empty() {
-        let what = "a command is <NAME> ::= < Diameter Header: CODE, REQ > and its rules";
-        note.put_all(&["hint: ", dictionary, " has no commands; ", what, "\n"]);
-        return;
+fn push_list(note: &mut Note, dictionary: &NamedSource<'_>) {
+    let name = dictionary.name;
+    match names_of(note.allocator(), dictionary.source, Named::Command) {
+        Ok(commands) if commands.is_empty() => {
+            let what = "a command is <NAME> ::= < Diameter Header: CODE, REQ > and its rules";
+            note.put_all(&["hint: ", name, " has no commands; ", what, "\n"]);
+        }
+        Ok(commands) => {
+            note.put("hint: its commands are ");
+            put_listed(note, &commands);
+            note.put_all(&["; `diacmd render ", name, "` prints them\n"]);
+        }
+        Err(error) => note.keep(Err(error)),
     }
-    let mut between = "hint: its commands are ";
-    for command in commands.get(..MOST_LISTED).unwrap_or(commands) {
-        note.put_all(&[between, command.name.as_str()]);
-        between = ", ";
-    }
-    if commands.len() > MOST_LISTED {
-        note.put(" and ");
-        note.put_number(commands.len().saturating_sub(MOST_LISTED) as u64);
-        note.put(" more");
-    }
-    note.put_all(&["; `diacmd render ", dictionary, "` prints them\n"]);
 }
 
 /// Adds the first command of the second dictionary that is among the names, and is none of the first.

@@ -21,8 +21,8 @@ use meaning::push_meaning;
 use scene::Scene;
 use std::alloc::{AllocError, Global};
 
-/// The name of the dictionary without lines.
-const NO_LINES: &str = "@none";
+/// The word for a dictionary or a table without lines.
+pub const NO_LINES: &str = "@none";
 
 const CAPTURED: &str =
     "the dictionary comes before the messages, and docs/CAPTURES.md says how to take these out of a capture";

@@ -87,7 +87,7 @@ impl<'a> Vocabulary<'a> {
         }
         match self.near(note.allocator(), named, name) {
             Ok(Some(near)) => {
-                note.put_all(&["hint: did you mean ", near, "?\n"]);
+                note.put_near(near);
                 true
             }
             Ok(None) => false,

@@ -2,6 +2,7 @@
 
 ghost use Rattle.dia_explain_inputs.specs.Beginnings.{TableBegins, LineBegins};
 
+use crate::dictionary::NO_LINES;
 use crate::hints::{Sight, hint_of};
 use crate::kinds::kind_of;
 use crate::notes::{push_made, push_not_text, push_quoted, push_too_long};
@@ -136,7 +137,13 @@ pub fn push_no_pairs(note: &mut Note, texts: &InputTexts<'_>, table: &Table) {
     if !table.commands.is_empty() {
         return;
     }
-    let (name, first, second) = (texts.table.name, texts.first.name, texts.second.name);
+    // A table without lines has no input.
+    let name = if texts.table.name.is_empty() {
+        NO_LINES
+    } else {
+        texts.table.name
+    };
+    let (first, second) = (texts.first.name, texts.second.name);
     note.put_all(&[
         name,
         ": the table lists no command, so nothing was compared\n",

@@ -15,6 +15,7 @@ mod place;
 mod runs;
 mod sites;
 mod tables;
+mod unknown;
 
 pub use digits::{count_digits, place_of_byte};
 pub use expecting::expected;
@@ -26,3 +27,4 @@ pub use padding::{Unpadded, find_unpadded};
 pub use place::{Place, back, place_of};
 pub use sites::{name_from, part_place};
 pub use tables::{RefusedWord, limit_word, syntax_word};
+pub use unknown::{avp_names, command_names, put_listed, unknown_avp, unknown_command};

@@ -87,6 +87,14 @@ impl Note {
         self.keep(done);
     }
 
+    /// Adds the name that is meant.
+    pub fn put_near(&mut self, near: &str)
+        ensures { Gains self.old self.new (codes "hint: did you mean " ++ near.now ++ codes "?\n") }
+    {
+        let done = write!(&mut self.text, "hint: did you mean {near}?\n");
+        self.keep(done);
+    }
+
     /// Begins a line about a place of a text: `NAME:LINE:COLUMN: `.
     pub fn put_place(&mut self, name: &str, text: &[u8], at: usize)
         ensures { Gains self.old self.new (place_text name.now text.now at) }

@@ -8,6 +8,6 @@ mod recording;
 mod tasks;
 
 pub use answering::answer_plainly;
-pub use notes::{names_of, note, note_unnamed};
+pub use notes::{UNNAMED, names_of, note, note_unnamed};
 pub use recording::report_made;
 pub use tasks::FirstTasks;

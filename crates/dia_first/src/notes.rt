@@ -11,6 +11,9 @@ use dia_explain_places::{InputTexts, Note};
 use dia_io::Command;
 use dia_report::Report;
 
+/// What `show` writes in place of a name.
+pub const UNNAMED: &str = "?";
+
 /// Explains a report on standard error. `names` are those of the commands that were asked for. Where memory or the device fails,
 /// there is no note.
 pub fn note<R: AllocGlobal + Eprint>(

@@ -5,7 +5,7 @@ ghost use Rattle.std.specs.Option.{option_map};
 ghost use Rattle.dia_first.specs.Tasks.{FirstRuns, first_command, text_command};
 
 use crate::answering::answer_plainly;
-use crate::notes::{names_of, note};
+use crate::notes::{UNNAMED, names_of, note, note_unnamed};
 use dia_cli::{Ending, Opener, Origin, Origins, Task};
 use dia_driver::{Manner, Tasks, texts_of};
 use dia_io::{Command, Exit, Inputs, ToWriter};
@@ -61,6 +61,9 @@ impl Tasks for FirstTasks {
         report: &Report,
     ) {
         note(rt, &texts_of(origins, inputs), names_of(task), report);
+        if matches!(origins.first, Origin::Base) && matches!(task, Task::Whole(Command::Show)) {
+            note_unnamed(rt, report, UNNAMED);
+        }
     }
 }
 

@@ -68,10 +68,24 @@ one_contents vs a b h k =
     let session = h.session ∙ sym k.session in
     let result = h.result ∙ sym k.result in
     let experimental = one_experimental _ a.experimental b.experimental h.experimental k.experimental in
+    let has_result = h.has_result ∙ sym k.has_result in
+    let has_experimental = h.has_experimental ∙ sym k.has_experimental in
     let cause = h.cause ∙ sym k.cause in
+    let origin_state = h.origin_state ∙ sym k.origin_state in
     let destination = h.destination ∙ sym k.destination in
     let apps = all_recorded vs no_apps a.apps b.apps h.apps k.apps in
-    λ i. record { host = host i; session = session i; result = result i; experimental = experimental i; cause = cause i; has_destination = destination i; apps = apps i }
+    λ i. record {
+      host = host i;
+      session = session i;
+      result = result i;
+      has_result = has_result i;
+      experimental = experimental i;
+      has_experimental = has_experimental i;
+      cause = cause i;
+      has_destination = destination i;
+      origin_state = origin_state i;
+      apps = apps i;
+    }
 
 -- ---- the body of a message
 

@@ -2,7 +2,7 @@
 use Rattle.std.proofs.Common.{◌≡◌, ℕ, ◌⊎◌, ◌==◌, ◌&&◌, ◌||◌, Bool, true, false, not, List, [], ◌∷◌, ◌++◌, Option, None, Some, is_some, option_map, zero, suc, refl, sym, ap, subst, ◌∙◌, inl, inr}
 use Rattle.std.specs.Prelude.{drop, if◌then◌else◌}
 use Rattle.std.specs.List.{list_any}
-use Rattle.std.specs.Option.{option_map_or}
+use Rattle.std.specs.Option.{option_map_or, option_or}
 use Rattle.std.proofs.lemmas.Bool.{and_from, and_parts, both_ways, eqb-true, false≢true, not-false, not-true, or_parts, true≢false}
 use Rattle.std.proofs.lemmas.List.Folds.{list_any-append}
 use Rattle.dia_follow.specs.declared.end.End.{End}
@@ -20,7 +20,7 @@ use Rattle.dia_follow.specs.declared.request.Request.{Request}
 use Rattle.dia_follow.specs.Applications.{Apps, is_relay, shares_number}
 use Rattle.dia_follow.specs.Commons.{common_apps}
 use Rattle.dia_follow.specs.Connections.{PlainConnection, Sides, after, after_by, answered_cer, answers_cer, apps_of, findings_by, findings_of, host_in, moment, new_connection}
-use Rattle.dia_follow.specs.Connections.{noted_end, opens, opens_in, own, phase_after, request_of, taken, with_own, with_sides}
+use Rattle.dia_follow.specs.Connections.{noted_end, opens, opens_in, own, phase_after, request_of, state_in, taken, with_own, with_sides}
 use Rattle.dia_follow.specs.Connections.{noted as noted_side}
 use Rattle.dia_follow.specs.Contents.{PlainContents}
 use Rattle.dia_follow.specs.Departures.{Row, answers_nothing, before_cea, cer_again, cer_from_acceptor, findings, if_known, is_asked, is_cea, known_common, may_not_ask, no_cer, no_common}
@@ -139,9 +139,13 @@ no_cea c from line m past is = both_ways (is_asked c.phase) (not_asked c.phase p
 abbrev asked_by : ℕ → Option ℕ → AnyMessage → PlainConnection
 asked_by number time m = record {
   phase = Asked Initiator;
-  initiator = record new_side { waits = request_of number time m ∷ []; apps = apps_of m.body; host = host_in m.body };
+  initiator = record new_side { waits = request_of number time m ∷ []; apps = apps_of m.body; host = host_in m.body; origin_state = option_or (state_in m.body) None };
   responder = new_side;
+  last = time;
 }
+
+abbrev timed : Option ℕ → PlainConnection → PlainConnection
+timed time c = record c { last = time }
 
 abbrev as_cer : AnyMessage → AnyMessage
 as_cer m = record m { head = record m.head { request = true; code = 257 } }
@@ -153,11 +157,11 @@ is_as_cer m is =
     let code : m.head.code ≡ 257 = eqb-true m.head.code 257 parts.1 in
     λ i. record m { head = record m.head { request = request i; code = code i } }
 
-asked_first : (number : ℕ) (time : Option ℕ) (m : AnyMessage) → is_cer m.head ≡ true → taken new_connection Initiator number time m ≡ asked_by number time m
-asked_first number time m is = subst (λ (x : AnyMessage). taken new_connection Initiator number time x ≡ asked_by number time x) (sym (is_as_cer m is)) refl
+asked_first : (number : ℕ) (time : Option ℕ) (m : AnyMessage) → is_cer m.head ≡ true → timed time (taken new_connection Initiator number time m) ≡ asked_by number time m
+asked_first number time m is = subst (λ (x : AnyMessage). timed time (taken new_connection Initiator number time x) ≡ asked_by number time x) (sym (is_as_cer m is)) refl
 
 asked_after : (line : Line) (m : AnyMessage) → line.seen ≡ Message m → is_cer m.head ≡ true → after new_connection Initiator line ≡ asked_by line.number line.time m
-asked_after line m seen is = ap (λ (x : Seen). after_by new_connection Initiator line x) seen ∙ asked_first line.number line.time m is
+asked_after line m seen is = ap (λ (x : Seen). timed line.time (after_by new_connection Initiator line x)) seen ∙ asked_first line.number line.time m is
 
 may_ask : (e : End) → may_not_ask Start e ≡ false → e ≡ Initiator
 may_ask Initiator h = refl

@@ -1,5 +1,5 @@
 -- Beginnings of connections, computed: what is reported of them, and that one of them is as `no_departure_opens` says.
-use Rattle.std.proofs.Common.{◌≡◌, ℕ, Bool, true, false, List, [], ◌∷◌, Option, None, Some, refl}
+use Rattle.std.proofs.Common.{◌≡◌, ℕ, Bool, true, false, List, [], ◌∷◌, Option, None, Some, is_some, refl}
 use Rattle.dia_follow.specs.declared.end.End.{End}
 use Rattle.dia_follow.specs.declared.end.End.TheVariants.{Initiator, Responder}
 use Rattle.dia_follow.specs.declared.message.Body.TheVariants.{Known}
@@ -17,7 +17,18 @@ abbrev head : Bool → ℕ → ℕ → Head
 head request code hop = record { request = request; proxiable = false; error = false; retransmitted = false; code = code; app = 0; hop = hop; e2e = 1 }
 
 abbrev says : Option ℕ → List ℕ → PlainContents
-says result auth = record { host = None; session = None; result = result; experimental = None; cause = None; has_destination = false; apps = record { auth = auth; acct = [] } }
+says result auth = record {
+  host = None;
+  session = None;
+  result = result;
+  has_result = is_some result;
+  experimental = None;
+  has_experimental = false;
+  cause = None;
+  has_destination = false;
+  origin_state = None;
+  apps = record { auth = auth; acct = [] };
+}
 
 abbrev cer : ℕ → AnyMessage
 cer hop = record { head = head true 257 hop; length = 32; body = Known (says None (4 ∷ [])) }

@@ -1,5 +1,6 @@
 -- What is known of a connection, and what a message does to it.
 use Rattle.std.specs.Prelude.{ℕ, ◌==◌, ◌&&◌, Bool, true, false, not, if◌then◌else◌, List, [], ◌∷◌, ◌++◌, drop, Option, Some, None, option_map, is_some}
+use Rattle.std.specs.Option.{option_or}
 use Rattle.dia_follow.specs.declared.codes.TheConstants.{CAPABILITIES_EXCHANGE, CAPABILITIES_UPDATE, DEVICE_WATCHDOG, DISCONNECT_PEER}
 use Rattle.dia_follow.specs.declared.end.End.{End}
 use Rattle.dia_follow.specs.declared.end.End.TheVariants.{Initiator, Responder}
@@ -26,14 +27,16 @@ use Rattle.dia_follow.specs.Requests.{PlainSession, session_of}
 use Rattle.dia_follow.specs.Sides.{new_side, cut_off, emptied}
 use Rattle.dia_follow.specs.Waits.{answered_place, is_dpr, is_full}
 
+-- how far it came, both ends, and the time of the last line, where that is known
 pub record PlainConnection : Type 0 where
   pub phase : Phase
   pub initiator : Side
   pub responder : Side
+  pub last : Option ℕ
 
 -- nothing is known
 abbrev pub new_connection : PlainConnection
-new_connection = record { phase = Start; initiator = new_side; responder = new_side }
+new_connection = record { phase = Start; initiator = new_side; responder = new_side; last = None }
 
 abbrev pub own : PlainConnection → End → Side
 own c Initiator = c.initiator
@@ -43,13 +46,13 @@ abbrev pub with_own : PlainConnection → End → Side → PlainConnection
 with_own c Initiator s = record c { initiator = s }
 with_own c Responder s = record c { responder = s }
 
--- messages may be missing: the requests and the hosts stay
+-- messages may be missing: the requests, the hosts and the Origin-State-Ids stay
 abbrev pub the_middle : PlainConnection → PlainConnection
-the_middle c = record { phase = Middle; initiator = cut_off c.initiator; responder = cut_off c.responder }
+the_middle c = record c { phase = Middle; initiator = cut_off c.initiator; responder = cut_off c.responder }
 
--- a message can't be read: the hosts stay
+-- a message can't be read: the hosts and the Origin-State-Ids stay
 abbrev pub emptied_all : PlainConnection → PlainConnection
-emptied_all c = record { phase = Middle; initiator = emptied c.initiator; responder = emptied c.responder }
+emptied_all c = record c { phase = Middle; initiator = emptied c.initiator; responder = emptied c.responder }
 
 -- ---- what is there as a message comes
 
@@ -63,6 +66,7 @@ moment c from line m = record {
   from = from;
   own = own c from;
   other = own c (other from);
+  last = c.last;
   line = line;
   message = m;
   request = at_place (own c (other from)).waits (answered (own c (other from)).waits m.head);
@@ -109,7 +113,7 @@ answers_cer asker from h = not (same_end from asker) && not h.request && (h.code
 -- a CEA is sent: without a Result-Code it isn't known whether the connection is open
 abbrev pub answered_cer : PlainConnection → End → End → AnyMessage → Option ℕ → PlainConnection
 answered_cer c asker from m None = the_middle c
-answered_cer c asker from m (Some code) = with_apps (record { phase = phase_after (is_success (Some code)) asker; initiator = unnoted c.initiator; responder = unnoted c.responder }) from (apps_of m.body)
+answered_cer c asker from m (Some code) = with_apps (record c { phase = phase_after (is_success (Some code)) asker; initiator = unnoted c.initiator; responder = unnoted c.responder }) from (apps_of m.body)
 
 -- a message after a CEA that refuses
 abbrev pub goes_on : PlainConnection → End → Head → PlainConnection
@@ -195,13 +199,18 @@ after_answer mine theirs number m =
 abbrev pub host_in : Body → Option (List ℕ)
 host_in b = elim (contents_of b) [ None ↦ None | Some contents ↦ contents.host ]
 
-abbrev pub host_by : Bool → Option (List ℕ) → Body → Option (List ℕ)
-host_by true None b = host_in b
-host_by true (Some host) b = Some host
-host_by false known b = known
+abbrev pub hosted : Side → Body → Side
+hosted s b = record s { host = option_or s.host (host_in b) }
+
+-- the last Origin-State-Id of a command between neighbors (RFC 6733 section 8.16)
+abbrev pub state_in : Body → Option ℕ
+state_in b = elim (contents_of b) [ None ↦ None | Some contents ↦ contents.origin_state ]
+
+abbrev pub stated : Side → Body → Side
+stated s b = record s { origin_state = option_or (state_in b) s.origin_state }
 
 abbrev pub named : Side → AnyMessage → Side
-named s m = record s { host = host_by (is_base_code m.head.code) s.host m.body }
+named s m = if is_base_code m.head.code then hosted (stated s m.body) m.body else s
 
 abbrev pub exchanged : Side → Side → ℕ → Option ℕ → AnyMessage → Sides
 exchanged mine theirs number time m = if m.head.request then after_request mine theirs number time m else after_answer mine theirs number m
@@ -227,4 +236,4 @@ after_by c from line (Message m) = taken c from line.number line.time m
 
 -- what is known after a message of an end
 abbrev pub after : PlainConnection → End → Line → PlainConnection
-after c from line = after_by c from line line.seen
+after c from line = record (after_by c from line line.seen) { last = line.time }

@@ -1,4 +1,4 @@
--- What the AVPs of a body say of its connection (RFC 6733 sections 5.3, 5.4, 6.3, 7.1 and 8.8).
+-- What the AVPs of a body say of its connection (RFC 6733 sections 5.3, 5.4, 6.3, 7.1, 8.8 and 8.16).
 use Rattle.std.specs.Prelude.{◌≡◌, ℕ, ◌||◌, Bool, true, false, List, [], ◌∷◌, Option, Some, None, is_some}
 use Rattle.std.specs.Prelude.{if◌then◌else◌}
 use Rattle.std.specs.List.{fold}
@@ -7,6 +7,7 @@ use Rattle.dia_follow.specs.declared.codes.TheConstants.{
   ORIGIN_HOST,
   SESSION_ID,
   RESULT_CODE,
+  ORIGIN_STATE_ID,
   DISCONNECT_CAUSE,
   DESTINATION_HOST,
   DESTINATION_REALM,
@@ -25,9 +26,12 @@ pub record PlainContents : Type 0 where
   pub host : Option (List ℕ)
   pub session : Option (List ℕ)
   pub result : Option ℕ
+  pub has_result : Bool
   pub experimental : Option (ℕ × ℕ)
+  pub has_experimental : Bool
   pub cause : Option ℕ
   pub has_destination : Bool
+  pub origin_state : Option ℕ
   pub apps : Apps
 
 -- the application that an AVP names by itself (RFC 6733 sections 6.8 and 6.9)
@@ -69,7 +73,10 @@ pub record IsIn (avps : List PlainAvp) (c : PlainContents) : Type 0 where
   pub host : c.host ≡ first_data ORIGIN_HOST avps
   pub session : c.session ≡ first_data SESSION_ID avps
   pub result : c.result ≡ first_number RESULT_CODE avps
+  pub has_result : c.has_result ≡ is_some (first_data RESULT_CODE avps)
   pub experimental : IsExperimental (first_data EXPERIMENTAL_RESULT avps) c.experimental
+  pub has_experimental : c.has_experimental ≡ is_some (first_data EXPERIMENTAL_RESULT avps)
   pub cause : c.cause ≡ first_number DISCONNECT_CAUSE avps
   pub destination : c.has_destination ≡ has_destination avps
+  pub origin_state : c.origin_state ≡ first_number ORIGIN_STATE_ID avps
   pub apps : AreRecorded avps no_apps c.apps

@@ -3,7 +3,7 @@ use Rattle.std.specs.Prelude.{ℕ, ◌-◌, ◌/◌, ◌==◌, ◌&&◌, ◌||�
 use Rattle.std.specs.Option.{option_map_or}
 use Rattle.dia_wire.specs.declared.header.HeadFault.{HeadFault}
 use Rattle.dia_wire.specs.declared.header.HeadFault.TheVariants as fault
-use Rattle.dia_follow.specs.declared.codes.TheConstants.{CAPABILITIES_EXCHANGE, DEVICE_WATCHDOG, NO_COMMON_APPLICATION, WATCHDOG_INTERVAL}
+use Rattle.dia_follow.specs.declared.codes.TheConstants.{CAPABILITIES_EXCHANGE, DEVICE_WATCHDOG, NO_COMMON_APPLICATION, SILENCE, WATCHDOG_INTERVAL}
 use Rattle.dia_follow.specs.declared.end.End.{End}
 use Rattle.dia_follow.specs.declared.end.End.TheVariants.{Initiator, Responder}
 use Rattle.dia_follow.specs.declared.phase.Phase.{Phase}
@@ -198,6 +198,14 @@ session_id m = answered_if m (λ r. option_map_or (λ s. if_contents m (λ c. is
 abbrev pub destination : PlainMoment → Bool
 destination m = not m.message.head.request && if_contents m (λ c. c.has_destination)
 
+-- 7.1: a Result-Code, for which 7.6 has an Experimental-Result too; not in the commands between neighbors
+abbrev pub has_outcome : ℕ → PlainContents → Bool
+has_outcome code c = c.has_result || (c.has_experimental && not (is_base_code code))
+
+-- 7.1 and 7.6: an answer has its outcome
+abbrev pub no_result : PlainMoment → Bool
+no_result m = not m.message.head.request && if_contents m (λ c. not (has_outcome m.message.head.code c))
+
 -- 5.3: a CEA of success is for a node with which there is an application in common
 abbrev pub no_common : PlainMoment → Bool
 no_common m = is_cea m && is_success (result_of m.message.body) && if_both m (λ a b. not (shares_number a b) && not (is_relay a) && not (is_relay b))
@@ -257,6 +265,20 @@ is_soon (Some last) (Some now) = nat_le last now && nat_lt (now - last) WATCHDOG
 abbrev pub watchdog_early : PlainMoment → Bool
 watchdog_early m = m.message.head.request && (m.message.head.code == DEVICE_WATCHDOG) && option_map_or (λ d. is_soon d.time m.line.time) m.own.dwr false
 
+-- RFC 3539 section 3.4.1: an end that hears nothing for Tw, which is 30 seconds with 2 of jitter, sends a watchdog
+abbrev pub is_silence : Option ℕ → Option ℕ → Bool
+is_silence None now = false
+is_silence (Some last) None = false
+is_silence (Some last) (Some now) = nat_le last now && nat_lt SILENCE (now - last)
+
+-- it comes later than that after the line before
+abbrev pub silence : PlainMoment → Bool
+silence m = is_silence m.last m.line.time
+
+-- 8.16: an Origin-State-Id is advanced when its node restarts, and has lost what it knew
+abbrev pub origin_state : PlainMoment → Bool
+origin_state m = is_base_code m.message.head.code && option_map_or (λ known. if_contents m (λ c. option_map_or (λ n. not (known == n)) c.origin_state false)) m.own.origin_state false
+
 -- once an end
 abbrev pub forgotten : PlainMoment → Bool
 forgotten m = m.message.head.request && not (order m) && is_full m.own.waits && not m.own.forgot
@@ -280,7 +302,7 @@ abbrev pub of_requests : PlainMoment → List Row
 of_requests m = (reason.AfterDpr, after_dpr m) ∷ (reason.AfterDpa, after_dpa m) ∷ (reason.HopByHop, hop_by_hop m) ∷ (reason.WatchdogWaits, watchdog_waits m) ∷ (reason.NotAdvertised, not_advertised m) ∷ []
 
 abbrev pub of_answers : PlainMoment → List Row
-of_answers m = (reason.AnswersNothing, answers_nothing m) ∷ (reason.EndToEnd, end_to_end m) ∷ (reason.Command, command m) ∷ (reason.Application, application m) ∷ (reason.Proxiable, proxiable m) ∷ (reason.SessionId, session_id m) ∷ (reason.Destination, destination m) ∷ []
+of_answers m = (reason.AnswersNothing, answers_nothing m) ∷ (reason.EndToEnd, end_to_end m) ∷ (reason.Command, command m) ∷ (reason.Application, application m) ∷ (reason.Proxiable, proxiable m) ∷ (reason.SessionId, session_id m) ∷ (reason.Destination, destination m) ∷ (reason.NoResult, no_result m) ∷ []
 
 abbrev pub of_results : PlainMoment → List Row
 of_results m = (reason.NoCommon, no_common m) ∷ (reason.CommonRefused, common_refused m) ∷ (reason.ErrorFlag, error_flag m) ∷ (reason.OriginHost, origin_host m) ∷ []
@@ -289,7 +311,7 @@ abbrev pub notes_of_frame : PlainMoment → List Row
 notes_of_frame m = (reason.Truncated, truncated m) ∷ (reason.Trailing, trailing m) ∷ (reason.AnswersBefore, answers_before m) ∷ (reason.Order, order m) ∷ (reason.Again, again m) ∷ []
 
 abbrev pub notes_of_state : PlainMoment → List Row
-notes_of_state m = (reason.OwnApplication, own_application m) ∷ (reason.Kinds, kinds m) ∷ (reason.GoesOn, goes_on m) ∷ (reason.WatchdogEarly, watchdog_early m) ∷ (reason.Forgotten, forgotten m) ∷ []
+notes_of_state m = (reason.OwnApplication, own_application m) ∷ (reason.Kinds, kinds m) ∷ (reason.GoesOn, goes_on m) ∷ (reason.WatchdogEarly, watchdog_early m) ∷ (reason.Silence, silence m) ∷ (reason.OriginState, origin_state m) ∷ (reason.Forgotten, forgotten m) ∷ []
 
 -- what is reported of a message
 abbrev pub findings : PlainMoment → List Reason

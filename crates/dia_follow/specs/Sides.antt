@@ -8,6 +8,7 @@ new_side = record {
   waits = [];
   apps = None;
   host = None;
+  origin_state = None;
   dwr = None;
   dpr = false;
   dpa = false;
@@ -17,10 +18,10 @@ new_side = record {
   strays = [];
 }
 
--- messages may be missing: as at the beginning, but for its requests and its host
+-- messages may be missing: as at the beginning, but for its requests, its host and its Origin-State-Id
 abbrev pub cut_off : Side → Side
-cut_off s = record new_side { waits = s.waits; host = s.host; gap = true }
+cut_off s = record new_side { waits = s.waits; host = s.host; origin_state = s.origin_state; gap = true }
 
--- a message can't be read: as at the beginning, but for its host
+-- a message can't be read: as at the beginning, but for its host and its Origin-State-Id
 abbrev pub emptied : Side → Side
-emptied s = record new_side { host = s.host; gap = true }
+emptied s = record new_side { host = s.host; origin_state = s.origin_state; gap = true }

@@ -26,6 +26,8 @@ pub(crate) const RESULT_CODE: u32 = 268;
 
 pub(crate) const DISCONNECT_CAUSE: u32 = 273;
 
+pub(crate) const ORIGIN_STATE_ID: u32 = 278;
+
 pub(crate) const DESTINATION_REALM: u32 = 283;
 
 pub(crate) const DESTINATION_HOST: u32 = 293;
@@ -51,3 +53,6 @@ pub(crate) const SESSION_START: usize = 256;
 
 /// The least nanoseconds between two watchdogs: Tw of 6 seconds, less 2 of jitter (RFC 3539 section 3.4.1).
 pub(crate) const WATCHDOG_INTERVAL: u64 = 4_000_000_000;
+
+/// The most nanoseconds without a message before a watchdog: Tw of 30 seconds, and 2 of jitter (RFC 3539 section 3.4.1).
+pub(crate) const SILENCE: u64 = 32_000_000_000;

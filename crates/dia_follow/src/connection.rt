@@ -26,6 +26,8 @@ pub struct Connection {
     phase: Phase,
     initiator: Side,
     responder: Side,
+    /// The time of the last message, in nanoseconds.
+    last: Option<u64>,
 }
 
 impl Model for Connection {
@@ -33,7 +35,7 @@ impl Model for Connection {
 
     ghost Value = { PlainConnection };
 
-    ghost view = { λ c. record { phase = c.phase; initiator = c.initiator; responder = c.responder } };
+    ghost view = { λ c. record { phase = c.phase; initiator = c.initiator; responder = c.responder; last = c.last } };
 }
 
 impl Connection {
@@ -48,6 +50,7 @@ impl Connection {
             phase: Phase::Start,
             initiator: Side::new(alloc),
             responder: Side::new(alloc),
+            last: None,
         }
     }
 
@@ -101,6 +104,7 @@ impl Connection {
             from,
             own,
             other,
+            last: self.last,
             line,
             message,
             request,

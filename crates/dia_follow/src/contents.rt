@@ -11,8 +11,8 @@ ghost use Rattle.dia_follow.specs.Contents.{AreRecorded, IsExperimental, IsIn, R
 use crate::applications::Applications;
 use crate::codes::{
     ACCT_APPLICATION_ID, AUTH_APPLICATION_ID, DESTINATION_HOST, DESTINATION_REALM,
-    DISCONNECT_CAUSE, EXPERIMENTAL_RESULT, EXPERIMENTAL_RESULT_CODE, ORIGIN_HOST, RESULT_CODE,
-    SESSION_ID, VENDOR_ID, VENDOR_SPECIFIC_APPLICATION_ID,
+    DISCONNECT_CAUSE, EXPERIMENTAL_RESULT, EXPERIMENTAL_RESULT_CODE, ORIGIN_HOST, ORIGIN_STATE_ID,
+    RESULT_CODE, SESSION_ID, VENDOR_ID, VENDOR_SPECIFIC_APPLICATION_ID,
 };
 use crate::first::{first_data, first_number, is_avp, know_front, number_of};
 use dia_wire::{Avp, Avps};
@@ -28,12 +28,18 @@ pub struct Contents<'a> {
     pub session: Option<&'a [u8]>,
     /// Result-Code.
     pub result: Option<u32>,
+    /// Whether there is a Result-Code.
+    pub has_result: bool,
     /// Vendor-Id and Experimental-Result-Code of the Experimental-Result.
     pub experimental: Option<(u32, u32)>,
+    /// Whether there is an Experimental-Result.
+    pub has_experimental: bool,
     /// Disconnect-Cause.
     pub cause: Option<u32>,
     /// Whether there is a Destination-Host or a Destination-Realm.
     pub has_destination: bool,
+    /// Origin-State-Id.
+    pub origin_state: Option<u32>,
     /// The applications that are named in the body, or directly inside a Vendor-Specific-Application-Id.
     pub apps: Applications,
 }
@@ -48,9 +54,12 @@ impl<'a> Model for Contents<'a> {
       host = option_copied c.host;
       session = option_copied c.session;
       result = c.result;
+      has_result = c.has_result;
       experimental = c.experimental;
+      has_experimental = c.has_experimental;
       cause = c.cause;
       has_destination = c.has_destination;
+      origin_state = c.origin_state;
       apps = c.apps;
     } };
 }
@@ -65,9 +74,12 @@ pub(crate) fn read_contents(alloc: Global, body: &[u8]) -> Result<Contents<'_>, 
         host: first_data(body, ORIGIN_HOST),
         session: first_data(body, SESSION_ID),
         result: first_number(body, RESULT_CODE),
+        has_result: has(body, RESULT_CODE),
         experimental: experimental(body),
+        has_experimental: has(body, EXPERIMENTAL_RESULT),
         cause: first_number(body, DISCONNECT_CAUSE),
         has_destination: has_destination(body),
+        origin_state: first_number(body, ORIGIN_STATE_ID),
         apps,
     })
 }

@@ -21,7 +21,8 @@ impl End {
         }
     }
 
-    pub(crate) fn is(self, end: End) -> bool
+    /// Whether it is this one.
+    pub fn is(self, end: End) -> bool
         ensures { result ≡ same_end self end }
     {
         match (self, end) {

@@ -90,7 +90,7 @@ impl Head {
 
     /// Whether its command is one of the base protocol's between neighbors: Capabilities-Exchange, Device-Watchdog or
     /// Disconnect-Peer.
-    pub(crate) fn is_base(&self) -> bool
+    pub fn is_base(&self) -> bool
         ensures { result ≡ is_base_code self.now.code }
     {
         self.code == CAPABILITIES_EXCHANGE

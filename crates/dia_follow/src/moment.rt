@@ -16,14 +16,15 @@ pub(crate) use findings::push_recorded;
 use std::alloc::{AllocError, Global};
 use std::marker::Model;
 
-/// What is there as a message comes: the message, what is known of the end that sent it and of the other, and the request that
-/// it answers.
+/// What is there as a message comes: the message, what is known of the end that sent it and of the other, the time of the line
+/// before, and the request that it answers.
 #[derive(Drop)]
 pub struct Moment<'a> {
     pub(crate) phase: Phase,
     pub(crate) from: End,
     pub(crate) own: &'a Side,
     pub(crate) other: &'a Side,
+    pub(crate) last: Option<u64>,
     pub(crate) line: &'a Line<'a>,
     pub(crate) message: &'a Message<'a>,
     pub(crate) request: Option<&'a Request>,
@@ -40,6 +41,7 @@ impl<'a> Model for Moment<'a> {
       from = m.from;
       own = m.own.now;
       other = m.other.now;
+      last = m.last;
       line = m.line.now;
       message = m.message.now;
       request = option_copied m.request;
@@ -71,6 +73,20 @@ impl<'a> Moment<'a> {
             Some(host) => Some(host.bytes()),
             None => None,
         }
+    }
+
+    /// The last Origin-State-Id of the end before the message.
+    pub fn origin_state(&self) -> Option<u32>
+        ensures { result ≡ self.now.own.origin_state }
+    {
+        self.own.origin_state
+    }
+
+    /// When the line before was captured, in nanoseconds.
+    pub fn last_time(&self) -> Option<u64>
+        ensures { result ≡ self.now.last }
+    {
+        self.last
     }
 
     /// The line of the message.

@@ -1,6 +1,6 @@
 //! The departures and the notes, in their order.
 
-/// What is reported of a message: first 25 departures from RFC 6733, then notes.
+/// What is reported of a message: first 26 departures from RFC 6733, then notes.
 #[derive(Clone, Copy, Debug, PartialEq, Eq)]
 pub enum Reason {
     /// The version isn't 1.
@@ -45,6 +45,8 @@ pub enum Reason {
     SessionId,
     /// An answer has a Destination-Host or a Destination-Realm.
     Destination,
+    /// An answer has neither a Result-Code nor, beyond the commands between neighbors, an Experimental-Result.
+    NoResult,
     /// A CEA of success, and no number of an application in common.
     NoCommon,
     /// A CEA with 5010, and applications in common.
@@ -71,6 +73,10 @@ pub enum Reason {
     GoesOn,
     /// Note: a DWR less than 4 seconds after the one before.
     WatchdogEarly,
+    /// Note: no message for more than 32 seconds before it.
+    Silence,
+    /// Note: the Origin-State-Id isn't the one before.
+    OriginState,
     /// Note: more requests wait than are remembered.
     Forgotten,
 }
@@ -89,6 +95,8 @@ impl Reason {
                 | Reason::Kinds
                 | Reason::GoesOn
                 | Reason::WatchdogEarly
+                | Reason::Silence
+                | Reason::OriginState
                 | Reason::Forgotten
         )
     }

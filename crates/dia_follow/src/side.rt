@@ -14,6 +14,8 @@ pub(crate) struct Side {
     pub(crate) apps: Option<Applications>,
     /// Its Origin-Host, where it is known.
     pub(crate) host: Option<Host>,
+    /// Its last Origin-State-Id, where it is known.
+    pub(crate) origin_state: Option<u32>,
     /// Its last DWR.
     pub(crate) dwr: Option<Watchdog>,
     /// Its DPR is sent, and not refused.
@@ -51,6 +53,7 @@ impl Side {
             waits: Waiting::new(alloc),
             apps: None,
             host: None,
+            origin_state: None,
             dwr: None,
             dpr: false,
             dpa: false,
@@ -61,7 +64,7 @@ impl Side {
         }
     }
 
-    /// Messages may be missing: only its requests and its host stay.
+    /// Messages may be missing: only its requests, its host and its Origin-State-Id stay.
     pub(crate) fn cut_off(&mut self, alloc: Global)
         ensures { self.new ≡ cut_off self.old }
     {
@@ -75,7 +78,7 @@ impl Side {
         self.strays = Strays::new(alloc);
     }
 
-    /// A message can't be read: only its host stays.
+    /// A message can't be read: only its host and its Origin-State-Id stay.
     pub(crate) fn empty(&mut self, alloc: Global)
         ensures { self.new ≡ emptied self.old }
     {

@@ -55,7 +55,7 @@ module _ (d : Dictionary) (json : Bool) (c : PlainConnection) (e : End) (verdict
 moved_line : (d : Dictionary) (json : Bool) (number : ℕ) (p : Progress) (m k : Captured)
     → answered_line d json number p (captured (record k { line = moved m.line k.line })) ≡ answered_line d json number p (captured k)
 moved_line d json number p m k =
-    let connection = moved_after d json p.connection k.end k.verdict m.line (line_at number k) k.line.seen in
+    let connection = ap (λ (c : PlainConnection). record c { last = k.line.time }) (moved_after d json p.connection k.end k.verdict m.line (line_at number k) k.line.seen) in
     let found = moved_findings d json p.connection k.end k.verdict m.line (line_at number k) k.line.seen in
     let answer = moved_answer d json p.connection k.end k.verdict m.line (line_at number k) k.line.seen in
     λ i. record { number = number; connection = connection i; departs = p.departs || departs (found i); text = p.text ++ answer i; refused = false }

@@ -9,7 +9,8 @@ use Rattle.dia_follow.specs.declared.Body.TheVariants.{Cut, Gap, Known}
 use Rattle.dia_follow.specs.declared.Head.{Head}
 use Rattle.dia_follow.specs.declared.Request.{Request}
 use Rattle.dia_follow.specs.Moments.{PlainMoment}
-use Rattle.dia_follow.specs.Messages.{contents_of}
+use Rattle.dia_follow.specs.Connections.{state_in}
+use Rattle.dia_follow.specs.Messages.{contents_of, is_base_code}
 use Rattle.dia_follow.specs.Waits.{dwr_line, since}
 use Rattle.dia_follow.specs.Kept.{stray_line}
 use Rattle.dia_follow_text.specs.declared.details.TheConstants.{MOST_WAITING}
@@ -63,6 +64,14 @@ sizes false count len = decimal count ++ codes " bytes for " ++ decimal len
 abbrev pub interval : PlainMoment → ℕ
 interval m = option_map_or (λ d. unwrap_or (after d.time m.line.time) 0) m.own.dwr 0
 
+-- how long a message comes after the line before
+abbrev pub silence_text : PlainMoment → List ℕ
+silence_text m = seconds (unwrap_or (after m.last m.line.time) 0) ++ codes " s"
+
+-- the Origin-State-Id of a message, and the one before
+abbrev pub states_text : PlainMoment → List ℕ
+states_text m = decimal (unwrap_or (state_in m.message.body) 0) ++ codes ", " ++ decimal (unwrap_or m.own.origin_state 0) ++ codes " before"
+
 abbrev pub since_text : ℕ → ℕ → List ℕ
 since_text hop line = decimal hop ++ codes " waits since line " ++ decimal line
 
@@ -99,6 +108,11 @@ number_text reason.NotAdvertised h = decimal h.app ++ codes " isn't advertised b
 number_text reason.OwnApplication h = decimal h.app ++ codes " isn't advertised by this end"
 number_text r h = codes "no request with " ++ decimal h.hop ++ codes " waits"
 
+-- what an answer lacks: one of a command between neighbors, or another
+abbrev pub no_result_text : Bool → List ℕ
+no_result_text true = codes "no Result-Code"
+no_result_text false = codes "neither Result-Code nor Experimental-Result"
+
 -- a text without numbers
 abbrev pub plain_text : Reason → Head → List ℕ
 plain_text reason.Bits h = if h.request then codes "E in a request" else codes "T in an answer"
@@ -109,6 +123,7 @@ plain_text reason.BeforeCea h = codes "no CEA yet"
 plain_text reason.AfterDpr h = codes "its DPR is sent"
 plain_text reason.AfterDpa h = codes "its DPA is sent"
 plain_text reason.Destination h = codes "an answer has none"
+plain_text reason.NoResult h = no_result_text (is_base_code h.code)
 plain_text reason.AnswersBefore h = codes "no request that is known"
 plain_text reason.Again h = codes "T is set"
 plain_text reason.Kinds h = codes "auth of one end, acct of the other"
@@ -159,5 +174,7 @@ detail_text m verdict reason.WatchdogEarly = earlier_text reason.WatchdogEarly m
 detail_text m verdict reason.NotAdvertised = number_text reason.NotAdvertised m.message.head
 detail_text m verdict reason.OwnApplication = number_text reason.OwnApplication m.message.head
 detail_text m verdict reason.AnswersNothing = number_text reason.AnswersNothing m.message.head
+detail_text m verdict reason.Silence = silence_text m
+detail_text m verdict reason.OriginState = states_text m
 detail_text m verdict reason.Forgotten = forgotten_text
 detail_text m verdict r = plain_text r m.message.head

@@ -25,6 +25,7 @@ word reason.Application = codes "application"
 word reason.Proxiable = codes "proxiable"
 word reason.SessionId = codes "session-id"
 word reason.Destination = codes "destination"
+word reason.NoResult = codes "no-result"
 word reason.NoCommon = codes "no-common"
 word reason.CommonRefused = codes "common-refused"
 word reason.ErrorFlag = codes "error-flag"
@@ -38,6 +39,8 @@ word reason.OwnApplication = codes "own-application"
 word reason.Kinds = codes "kinds"
 word reason.GoesOn = codes "goes-on"
 word reason.WatchdogEarly = codes "watchdog-early"
+word reason.Silence = codes "silence"
+word reason.OriginState = codes "origin-state"
 word reason.Forgotten = codes "forgotten"
 
 -- ---- sections of RFC 6733
@@ -51,6 +54,7 @@ answer_section reason.Application = Some (codes "3")
 answer_section reason.Proxiable = Some (codes "6.2")
 answer_section reason.SessionId = Some (codes "6.2")
 answer_section reason.Destination = Some (codes "6.2")
+answer_section reason.NoResult = Some (codes "7.1")
 answer_section r = None
 
 abbrev pub error_flag_section : Option ℕ → List ℕ

@@ -2,13 +2,13 @@
 
 ghost use Rattle.std.specs.Prelude.{◌≡◌, ◌++◌, OnOk, codes, if◌then◌else◌, length, string_bytes};
 ghost use Rattle.std.specs.Fmt.{decimal};
-ghost use Rattle.dia_follow.specs.Messages.{result_of};
+ghost use Rattle.dia_follow.specs.Messages.{is_base_code, result_of};
 ghost use Rattle.dia_follow_text.specs.Details.{detail_text, field_pair, field_text, forgotten_text, gap_text, has_session};
-ghost use Rattle.dia_follow_text.specs.Details.{number_text, on_result, plain_text, result_text, sizes};
+ghost use Rattle.dia_follow_text.specs.Details.{no_result_text, number_text, on_result, plain_text, result_text, sizes};
 ghost use Rattle.dia_follow_text.specs.Details.{unlike_flag, unlike_session, unlike_text, with_flag};
 
 use crate::commons::push_known_common;
-use crate::earlier::push_earlier;
+use crate::earlier::{push_earlier, push_silence, push_states};
 use crate::hosts::push_hosts;
 use dia_follow::{Body, Head, Line, Message, Moment, Reason, Request};
 use std::alloc::{AllocError, Global};
@@ -46,6 +46,8 @@ pub(crate) fn push_detail(
         Reason::NotAdvertised | Reason::OwnApplication | Reason::AnswersNothing => {
             push_number(text, &moment.message().head, reason)
         }
+        Reason::Silence => push_silence(text, moment),
+        Reason::OriginState => push_states(text, moment),
         Reason::Forgotten => push_forgotten(text),
         _ => text.push_str(plain(&moment.message().head, reason)),
     }
@@ -58,6 +60,17 @@ fn wrong_bit(head: &Head) -> &'static str
         "E in a request"
     } else {
         "T in an answer"
+    }
+}
+
+/// What an answer lacks.
+fn no_result(head: &Head) -> &'static str
+    ensures { result.now ≡ no_result_text (is_base_code head.now.code) }
+{
+    if head.is_base() {
+        "no Result-Code"
+    } else {
+        "neither Result-Code nor Experimental-Result"
     }
 }
 
@@ -74,6 +87,7 @@ fn plain(head: &Head, reason: Reason) -> &'static str
         Reason::AfterDpr => "its DPR is sent",
         Reason::AfterDpa => "its DPA is sent",
         Reason::Destination => "an answer has none",
+        Reason::NoResult => no_result(head),
         Reason::AnswersBefore => "no request that is known",
         Reason::Again => "T is set",
         Reason::Kinds => "auth of one end, acct of the other",

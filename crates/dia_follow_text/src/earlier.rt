@@ -1,8 +1,9 @@
 //! The line that a departure or a note speaks of, and what is said of an earlier one.
 
 ghost use Rattle.std.specs.Prelude.{◌≡◌, ◌++◌, OnOk, option_map, string_bytes};
+ghost use Rattle.dia_follow.specs.Connections.{state_in};
 ghost use Rattle.dia_follow_text.specs.Details.{earlier_at, earlier_text, interval, interval_text};
-ghost use Rattle.dia_follow_text.specs.Details.{order_text, other_line, request_line, since_text};
+ghost use Rattle.dia_follow_text.specs.Details.{order_text, other_line, request_line, silence_text, since_text, states_text};
 
 use crate::details::push_line;
 use crate::times::{after, push_seconds};
@@ -102,5 +103,32 @@ fn interval(moment: &Moment<'_>) -> u64
     match moment.last_dwr() {
         Some(last) => after(last.time, moment.line().time).unwrap_or(0),
         None => 0,
+    }
+}
+
+/// Adds how long the message comes after the line before.
+pub(crate) fn push_silence(text: &mut String, moment: &Moment<'_>) -> Result<(), AllocError>
+    ensures { OnOk result (string_bytes text.new ≡ string_bytes text.old ++ silence_text moment.now) }
+{
+    let length = after(moment.last_time(), moment.line().time);
+    push_seconds(text, length.unwrap_or(0))?;
+    text.push_str(" s")
+}
+
+/// Adds the Origin-State-Id of the message, and the one before.
+pub(crate) fn push_states(text: &mut String, moment: &Moment<'_>) -> Result<(), AllocError>
+    ensures { OnOk result (string_bytes text.new ≡ string_bytes text.old ++ states_text moment.now) }
+{
+    let now = state_in(moment).unwrap_or(0);
+    let known = moment.origin_state().unwrap_or(0);
+    write!(text, "{now}, {known} before")
+}
+
+fn state_in(moment: &Moment<'_>) -> Option<u32>
+    ensures { result ≡ state_in moment.now.message.body }
+{
+    match moment.contents() {
+        Some(contents) => contents.origin_state,
+        None => None,
     }
 }

@@ -32,6 +32,7 @@ pub(crate) fn word(reason: Reason) -> &'static str
         Reason::Proxiable => "proxiable",
         Reason::SessionId => "session-id",
         Reason::Destination => "destination",
+        Reason::NoResult => "no-result",
         Reason::NoCommon => "no-common",
         Reason::CommonRefused => "common-refused",
         Reason::ErrorFlag => "error-flag",
@@ -45,6 +46,8 @@ pub(crate) fn word(reason: Reason) -> &'static str
         Reason::Kinds => "kinds",
         Reason::GoesOn => "goes-on",
         Reason::WatchdogEarly => "watchdog-early",
+        Reason::Silence => "silence",
+        Reason::OriginState => "origin-state",
         Reason::Forgotten => "forgotten",
     }
 }
@@ -98,6 +101,7 @@ fn answer_section(reason: Reason) -> Option<&'static str>
     match reason {
         Reason::AnswersNothing | Reason::EndToEnd | Reason::Proxiable => Some("6.2"),
         Reason::SessionId | Reason::Destination => Some("6.2"),
+        Reason::NoResult => Some("7.1"),
         Reason::Command => Some("3.1"),
         Reason::Application => Some("3"),
         _ => None,

@@ -17,6 +17,7 @@ use std::process::Abort;
 mod bodies;
 mod opening;
 mod requests;
+mod results;
 
 #[test]
 fn connections_begin(rt: HostRuntime) {
@@ -31,6 +32,11 @@ fn requests_are_answered(rt: HostRuntime) {
 #[test]
 fn bodies_are_read(rt: HostRuntime) {
     answers(&rt, bodies::ROWS);
+}
+
+#[test]
+fn results_and_silence_are_noted(rt: HostRuntime) {
+    answers(&rt, results::ROWS);
 }
 
 /// Asserts that each text of the rows has its answer.

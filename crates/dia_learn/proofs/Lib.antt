@@ -4,3 +4,6 @@ pub mod Counting
 pub mod Reading
 pub mod Waiting
 pub mod ValidLevels
+pub mod OneSource
+pub mod Pairs
+pub mod WorkedRows

@@ -6,6 +6,6 @@ mod place;
 mod seen;
 mod taking;
 
-pub use laws::valid_levels;
+pub use laws::{one_source, valid_levels};
 pub use place::{Place, Spot};
 pub use seen::{Flags, Seen};

@@ -15,6 +15,7 @@ pub mod HostedLevels
 pub mod InRange
 pub mod JoinedRanges
 pub mod LevelsOfParts
+pub mod ListedAvps
 pub mod MadeAvps
 pub mod MadeLevels
 pub mod Messages

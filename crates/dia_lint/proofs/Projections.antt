@@ -20,7 +20,7 @@ use Rattle.dia_lint.specs.declared.finding.Place.TheVariants as place
 use Rattle.dia_lint.specs.declared.detail.Detail.TheVariants as detail
 use Rattle.dia_lint.specs.Costs.{level_of}
 use Rattle.dia_lint.specs.Exact.{AreOfMessages, is_no_level, is_no_message, is_of_messages, reported}
-use Rattle.dia_lint.specs.ExactLines.{avp_lines, command_lines, definition_lines, group_lines, level_lines, message_lines, of_avp, rule_lines, rules_lines, stands_lines, unmet_in, why_never}
+use Rattle.dia_lint.specs.ExactLines.{avp_lines, command_lines, definition_lines, group_lines, level_lines, message_lines, of_avp, rule_lines, rules_lines, stands_lines, unmet_in, why_never, why_never_listed}
 use Rattle.dia_lint.specs.Gathered.{Adds, gathered, long_command, long_commands, long_group, long_groups, reports, way_of, ways_in}
 use Rattle.dia_lint.specs.Guidelines.{at_head}
 use Rattle.dia_lint.specs.OwnRules.{named_by}
@@ -147,10 +147,10 @@ of_commands s r n =
 of_entry : (s : Side) (r listed : Reached) (e : ℕ) → Projects (avp_lines s r listed e) [] [] (avp_part s r listed e)
 of_entry s r listed e = by (is_long_group s e) (has_in r e) (has_in listed e)
   where
-    by : (long has is : Bool) → Projects (if long then [] else if has then (if is then [] else of_avp e NeverListed detail.OnlyWildcards ∷ []) else of_avp e NeverHeld detail.NotHeld ∷ []) [] [] (if long then [] else if has then (if is then [] else reports NeverListed (Avp e) ∷ []) else reports NeverHeld (Avp e) ∷ [])
+    by : (long has is : Bool) → Projects (if long then [] else if has then (if is then [] else of_avp e NeverListed (why_never_listed s.book e) ∷ []) else of_avp e NeverHeld detail.NotHeld ∷ []) [] [] (if long then [] else if has then (if is then [] else reports NeverListed (Avp e) ∷ []) else reports NeverHeld (Avp e) ∷ [])
     by true has is = none
     by false true true = none
-    by false true false = one (of_avp e NeverListed detail.OnlyWildcards) [] [] (reports NeverListed (Avp e) ∷ []) refl refl refl refl
+    by false true false = one (of_avp e NeverListed (why_never_listed s.book e)) [] [] (reports NeverListed (Avp e) ∷ []) refl refl refl refl
     by false false is = one (of_avp e NeverHeld detail.NotHeld) [] [] (reports NeverHeld (Avp e) ∷ []) refl refl refl refl
 
 pub of_entries : (s : Side) (r listed : Reached) (n : ℕ) → Projects (gathered (avp_lines s r listed) n) [] [] (gathered (avp_part s r listed) n)

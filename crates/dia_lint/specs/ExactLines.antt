@@ -24,6 +24,7 @@ use Rattle.dia_lint.specs.declared.rule.Rule.TheVariants.{NeverHeld, NeverListed
 use Rattle.dia_lint.specs.Costs.{level_of, sender_of}
 use Rattle.dia_lint.specs.Gathered.{gathered}
 use Rattle.dia_lint.specs.Guidelines.{at_head}
+use Rattle.dia_lint.specs.ListedAvps.{is_listed_avp}
 use Rattle.dia_lint.specs.OwnRules.{named_by}
 use Rattle.dia_lint.specs.Ways.{Side, AreOfSide, IsReached, cost_of, has_in, way_in, with_rule}
 use Rattle.dia_lint.specs.WayLines.{IsListedReached, is_long_group, rule_length}
@@ -94,10 +95,14 @@ command_lines s r i = message_lines s (length (groups s.book) + i) ++ definition
 abbrev pub of_avp : ℕ → Rule → Detail → Finding
 of_avp e rule what = record { rule = rule; place = place.Avp e; subject = subject.Avp e; detail = what }
 
+-- why no message has an AVP by rules alone: no rule lists it, or each message with it has an AVP that comes through a wildcard
+abbrev pub why_never_listed : Dictionary → ℕ → Detail
+why_never_listed d e = if is_listed_avp d e then detail.NotByRulesAlone else detail.OnlyWildcards
+
 -- of an AVP, by what messages have, and by what they have through rules
 abbrev pub avp_lines : Side → Reached → Reached → ℕ → List Finding
 avp_lines s r listed e =
-    if is_long_group s e then [] else if has_in r e then (if has_in listed e then [] else of_avp e NeverListed detail.OnlyWildcards ∷ []) else of_avp e NeverHeld detail.NotHeld ∷ []
+    if is_long_group s e then [] else if has_in r e then (if has_in listed e then [] else of_avp e NeverListed (why_never_listed s.book e) ∷ []) else of_avp e NeverHeld detail.NotHeld ∷ []
 
 -- of AVPs, if there is a command
 pub data AreAvpLines (s : Side) (r : Reached) (lines : List Finding) : Type 0 where

@@ -10,6 +10,7 @@ pub mod GuidelineLines
 pub mod Guidelines
 pub mod Held
 pub mod LevelParts
+pub mod ListedAvps
 pub mod NormalForms
 pub mod Overlaps
 pub mod OwnRules

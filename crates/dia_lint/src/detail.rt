@@ -33,6 +33,8 @@ pub enum Detail {
     NothingLetsItIn,
     /// The AVP occurs only where a wildcard lets it in.
     OnlyWildcards,
+    /// The AVP, which a rule lists, occurs only in messages that also have an AVP by a wildcard.
+    NotByRulesAlone,
     /// The Command Code and the Application-ID of a command.
     Selector { code: u32, app: Option<u32> },
     /// What the P flag is, and what it is in the messages of another command.

@@ -17,6 +17,7 @@ mod guidelines;
 mod held;
 mod laws;
 mod levels;
+mod listed;
 mod normal;
 mod overlaps;
 mod own_rules;

@@ -91,6 +91,7 @@ plain_text detail.NotHeld = codes "no valid message has it"
 plain_text detail.WildcardSaysIt = codes "the wildcard says it"
 plain_text detail.NothingLetsItIn = codes "nothing lets it in"
 plain_text detail.OnlyWildcards = codes "only wildcards let it in"
+plain_text detail.NotByRulesAlone = codes "no valid message has it without an AVP by a wildcard"
 plain_text detail.OfRelays = codes "application 4294967295 is that of relays"
 plain_text other = guideline_text other
 

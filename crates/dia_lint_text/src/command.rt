@@ -20,7 +20,7 @@ use crate::accepted::{BadList, read_accepted};
 use crate::asked::Asked;
 use crate::choice::Choice;
 use crate::listing::{Listing, list_findings};
-use crate::notes::{explain, explain_list, explain_words};
+use crate::notes::{explain, explain_list, explain_nothing, explain_words};
 use crate::objects::{bad_list_line, no_rule_line};
 use crate::parts::Parts;
 use crate::sorting::rows;
@@ -94,6 +94,7 @@ fn by_choice(
     if choice.has_any() {
         by_rules(alloc, asked, inputs, notes, choice)
     } else {
+        explain_nothing(alloc, notes);
         nothing_asked(alloc, asked.json)
     }
 }

@@ -191,6 +191,7 @@ fn plain(detail: Detail) -> &'static str
         Detail::WildcardSaysIt => "the wildcard says it",
         Detail::NothingLetsItIn => "nothing lets it in",
         Detail::OnlyWildcards => "only wildcards let it in",
+        Detail::NotByRulesAlone => "no valid message has it without an AVP by a wildcard",
         Detail::OfRelays => "application 4294967295 is that of relays",
         _ => plain_guideline(detail),
     }

@@ -111,6 +111,13 @@ pub(crate) fn explain_words(alloc: Global, notes: &mut String) {
     add(notes, note);
 }
 
+/// Adds that the options leave no rule.
+pub(crate) fn explain_nothing(alloc: Global, notes: &mut String) {
+    let mut note = Note::new(alloc);
+    note.put_hint("--except leaves out every rule that is asked for");
+    add(notes, note);
+}
+
 /// Adds the text of a note, unless memory was refused.
 fn add(notes: &mut String, note: Note) {
     match note.finish() {

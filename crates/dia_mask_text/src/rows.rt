@@ -6,7 +6,7 @@
 //! --
 //! the lines of the answer
 //! --
-//! the summary
+//! the summary, or the hint
 //! ```
 //!
 //! `$H` stands for the rest of a header of command 302, and `json` in the head asks for JSON.
@@ -21,6 +21,7 @@ const DICTIONARY: &str = "%avp S 9005 UTF8String any
 %avp E 9003 Enumerated any ( 1 2 )
 %avp P 269 UTF8String any
 %avp I 96 Unsigned64 any
+%avp Long-Name 9006 UTF8String any
 <G> ::= < AVP Header: 9100 > * [ AVP ]
 <T> ::= < Diameter Header: 302, REQ > * [ AVP ]
 ";
@@ -157,42 +158,62 @@ left as they are: AVP 1, S 2
 --
 mask: no AVP X
 --
+hint: none of the dictionary's 7 AVPs has a similar name: `diacmd render D` prints them
+== a name that is nearly one; keep S,long-name; status 2
+--
+mask: no AVP long-name
+--
+hint: did you mean Long-Name?
+== the name of a command; mask T; status 2
+--
+mask: no AVP T
+--
+hint: T is a command there, and AVPs are asked for
 == an Enumerated with a list; mask E; status 2
 --
 mask: E can't be masked
 --
+hint: name the members of a group; of an Enumerated with a list no other value is valid
 == a group; only G; status 2
 --
 mask: G can't be masked
 --
+hint: name the members of a group; of an Enumerated with a list no other value is valid
 == an AVP in two lists; keep S; mask N,S; status 2
 --
 mask: S in two lists
 --
+hint: leave it in one of the lists
 == unknown AVPs in two lists; keep S,AVP; mask AVP; status 2
 --
 mask: AVP in two lists
 --
+hint: leave it in one of the lists
 == the first of several; mask N,G,X; status 2
 --
 mask: G can't be masked
 --
+hint: name the members of a group; of an Enumerated with a list no other value is valid
 == those that stay come first; keep X; mask G; status 2
 --
 mask: no AVP X
 --
+hint: none of the dictionary's 7 AVPs has a similar name: `diacmd render D` prints them
 == in two lists comes last; keep S; mask S,X; status 2
 --
 mask: no AVP X
 --
+hint: none of the dictionary's 7 AVPs has a similar name: `diacmd render D` prints them
 == an empty name; only S,; status 2
 --
 mask: no AVP 
 --
+hint: none of the dictionary's 7 AVPs has a similar name: `diacmd render D` prints them
 == an empty list; only ; status 2
 --
 mask: no AVP 
 --
+hint: none of the dictionary's 7 AVPs has a similar name: `diacmd render D` prints them
 ";
 
 #[test]

@@ -17,6 +17,7 @@ use crate::choosing::{BadName, Why, choice_of};
 use crate::options::Options;
 use crate::summary::push_summary;
 use dia_dict::Book;
+use dia_explain_places::unknown_avp;
 use dia_io::{Exit, Failed, Feed, Input, Sink, put_all};
 use dia_report::{Refused, Report, Reported};
 use dia_run::{answer_of, read_dictionary};
@@ -33,7 +34,7 @@ const PIECE: usize = 4096;
 /// The answers are put after each piece that was read. It takes the memory of one line, of the answers of one piece, and of each
 /// different word.
 ///
-/// A summary is added to `notes`, unless the dictionary or a name is refused. Where memory is refused to it, they are empty.
+/// A summary is added to `notes`, or a hint about a name that is refused. Where memory is refused to it, they are empty.
 pub fn mask<F: Feed, S: Sink>(
     alloc: Global,
     options: &Options<'_>,
@@ -67,7 +68,28 @@ pub fn mask<F: Feed, S: Sink>(
             let mut state = State::new(alloc, manner.book, options.json)?;
             mask_all(alloc, &manner, &mut state, options.json, notes, feed, sink)
         }
-        Err(bad) => refuse_name(alloc, options, dictionary, bad, sink),
+        Err(bad) => {
+            note_refused(alloc, &first.book, bad, notes);
+            refuse_name(alloc, options, dictionary, bad, sink)
+        }
+    }
+}
+
+/// Adds a hint about a name that is refused, if there is memory for it.
+fn note_refused<B: Book>(alloc: Global, book: &B, bad: BadName<'_>, notes: &mut String) {
+    if let Ok(hint) = hint_of(alloc, book, bad) {
+        *notes = hint;
+    }
+}
+
+fn hint_of<B: Book>(alloc: Global, book: &B, bad: BadName<'_>) -> Result<String, AllocError> {
+    match bad.why {
+        Why::Missing => unknown_avp(alloc, book, bad.name),
+        Why::Fixed => String::from_str(
+            alloc,
+            "hint: name the members of a group; of an Enumerated with a list no other value is valid\n",
+        ),
+        Why::Twice => String::from_str(alloc, "hint: leave it in one of the lists\n"),
     }
 }
 

@@ -4,7 +4,6 @@ mod Graphs
 mod Steps
 mod Walked
 mod WalkOfBook
-mod Words
 mod Loops
 mod Slots
 mod NamedPaths

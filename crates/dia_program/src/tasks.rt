@@ -22,7 +22,7 @@ use crate::upgrading::list;
 use dia_captures::Lines;
 use dia_cli::{Ending, Opener, Origin, Origins, Task};
 use dia_driver::{Manner, Tasks, texts_of};
-use dia_first::{answer_plainly, names_of, note, note_unnamed};
+use dia_first::{UNNAMED, answer_plainly, names_of, note, note_unnamed};
 use dia_io::{Command, Inputs, Sink, ToWriter};
 use dia_report::{Report, Reported};
 use std::io::Write;
@@ -201,7 +201,7 @@ where
 /// Writes how AVPs get names that the base dictionary doesn't have, where a message was shown.
 fn report_unnamed<R: AllocGlobal + Eprint>(rt: &R, task: &Task, report: &Report) {
     match task {
-        Task::Whole(Command::Show) | Task::ShowNamed => note_unnamed(rt, report, "?"),
+        Task::Whole(Command::Show) | Task::ShowNamed => note_unnamed(rt, report, UNNAMED),
         Task::ShowText => note_unnamed(rt, report, "a number in place of a name"),
         _ => {}
     }

@@ -16,6 +16,10 @@ use dia_upgrades::{Asked, BreakingAnswer, Report, Stale, breaking};
 use std::alloc::Global;
 use std::io::Write;
 
+/// What standard error says of `--stale-allowed` without a list.
+const NO_LIST: &str =
+    "hint: --stale-allowed is about entries of --accepted FILE, and there is no list\n";
+
 /// `breaking` as the command line asks for it.
 fn asked_of(breaking: &Breaking) -> Asked<'_>
     ensures { AsksFor breaking.now result }
@@ -111,5 +115,8 @@ fn note_upgrade<R: AllocGlobal + Eprint>(
 ) {
     if let Ok(text) = explain_upgrade(rt.alloc(), texts, asked, inputs, report, explain) {
         let _ = eprint!(rt; "{text}");
+    }
+    if matches!(asked.stale, Stale::Allowed) && texts.table.name.is_empty() {
+        let _ = rt.eprint(NO_LIST);
     }
 }

@@ -2,7 +2,7 @@
 use Rattle.std.proofs.Common.{◌≡◌, ℕ, ◌+◌, ◌^◌, ◌<◌, ◌==◌, ◌&&◌, nat_eq, nat_le, Bool, true, false, not, if◌then◌else◌, List, [], ◌∷◌, ◌++◌, length, take, drop, Option, Some, None, is_none, unwrap_or, Ok, IfSome, IsTrue, All, codes, refl, sym, ap, subst, ◌∙◌, append_assoc, append-nil, arith}
 use Rattle.std.specs.Prelude.{slice_get, find}
 use Rattle.std.specs.List.{list_all, list_any, prefix_len}
-use Rattle.std.specs.Option.{option_eq}
+use Rattle.std.specs.Option.{option_eq, option_or}
 use Rattle.std.specs.Char.{is_ascii_digit, is_ascii_alphanumeric, is_ascii_alphabetic}
 use Rattle.std.specs.Fmt.{decimal}
 use Rattle.std.proofs.lemmas.Bool.{and_parts, and_from, and_left, and_right, lt-ltb, ne_eqb, true≢false}
@@ -21,7 +21,7 @@ use Rattle.dia_book.proofs.Members.{at_find, find-found}
 use Rattle.dia_book.proofs.SameKeys.{same_key-true}
 use Rattle.dia_text.specs.declared.keys.AvpCode.{AvpCode}
 use Rattle.dia_text.specs.Numbers.{number_below}
-use Rattle.dia_text.specs.Keys.{is_no_slash, with_vendor, vendor_code, numbered, code_of_key, entry_named, entry_at, code_of}
+use Rattle.dia_text.specs.Keys.{is_other, with_vendor, parted_code, vendor_code, numbered, code_of_key, entry_named, entry_at, code_of}
 use Rattle.dia_text.specs.LineTexts.{vendor_text, code_text, has_name, name_or_code, avp_word}
 use Rattle.dia_text.proofs.NumbersOfWords.{digits_model}
 use Rattle.dia_text.proofs.WordsBack.{is_sign, IsWord, decimal_word, signs_append}
@@ -82,13 +82,13 @@ found_by_name name xs apart i x at =
 
 -- ---- numbers
 
-digit_no_slash : (c : ℕ) → is_ascii_digit c ≡ true → is_no_slash c ≡ true
+digit_no_slash : (c : ℕ) → is_ascii_digit c ≡ true → is_other 47 c ≡ true
 digit_no_slash c digit = grind (arith, nat_tests)
 
 digit_no_brace : (c : ℕ) → is_ascii_digit c ≡ true → (c == 125) ≡ false
 digit_no_brace c digit = grind (arith, nat_tests)
 
-up_to_slash : (ds rest : List ℕ) → list_all is_ascii_digit ds ≡ true → prefix_len is_no_slash (ds ++ (47 ∷ rest)) ≡ length ds
+up_to_slash : (ds rest : List ℕ) → list_all is_ascii_digit ds ≡ true → prefix_len (is_other 47) (ds ++ (47 ∷ rest)) ≡ length ds
 up_to_slash [] rest all = refl
 up_to_slash (c ∷ ds) rest all =
     let parts = and_parts (is_ascii_digit c) (list_all is_ascii_digit ds) all in
@@ -96,9 +96,14 @@ up_to_slash (c ∷ ds) rest all =
     let more = up_to_slash ds rest parts.1 in
     rw (here, more) (omega arith)
 
-vendor_read : (word : List ℕ) (at code vendor : ℕ) → prefix_len is_no_slash word ≡ at → (at == length word) ≡ false → number_below (2 ^ 32) (take at word) ≡ Some code
+parted_read : (word : List ℕ) (at code vendor : ℕ) → prefix_len (is_other 47) word ≡ at → (at == length word) ≡ false → number_below (2 ^ 32) (take at word) ≡ Some code
+    → number_below (2 ^ 32) (drop (at + 1) word) ≡ Some vendor → parted_code 47 word ≡ Some (with_vendor code vendor)
+parted_read word at code vendor is more left right = rw (is, more, left, right) refl
+
+vendor_read : (word : List ℕ) (at code vendor : ℕ) → prefix_len (is_other 47) word ≡ at → (at == length word) ≡ false → number_below (2 ^ 32) (take at word) ≡ Some code
     → number_below (2 ^ 32) (drop (at + 1) word) ≡ Some vendor → vendor_code word ≡ Some (with_vendor code vendor)
-vendor_read word at code vendor is more left right = rw (is, more, left, right) refl
+vendor_read word at code vendor is more left right =
+    ap (λ (o : Option AvpCode). option_or o (parted_code 58 word)) (parted_read word at code vendor is more left right)
 
 no_number : (word : List ℕ) → 0 < length word → list_all is_ascii_digit word ≡ false → number_below (2 ^ 32) word ≡ None
 no_number word some other = rw (lt-ltb 0 (length word) some, other) refl

@@ -16,7 +16,7 @@ use Rattle.dia_text.specs.declared.fault.Misread.TheVariants as misread
 use Rattle.dia_text.specs.Reading.{some_or, Fails}
 use Rattle.dia_text.specs.declared.keys.AvpCode.{AvpCode}
 use Rattle.dia_text.specs.Numbers.{number_below}
-use Rattle.dia_text.specs.Keys.{with_vendor, vendor_code}
+use Rattle.dia_text.specs.Keys.{with_vendor, parted_code}
 use Rattle.dia_text.specs.Values.{each, decimal_byte, byte_pair, in_family, address_of, unescaped, text_at}
 
 -- ---- texts that are cut
@@ -91,14 +91,14 @@ vendor_cut at word =
     if at == length word then None
     else option_and_then (λ code. option_map (with_vendor code) (number_below (2 ^ 32) (drop (at + 1) word))) (number_below (2 ^ 32) (take at word))
 
-pub code_and_vendor : (word code vendor : List ℕ) (a b : Option ℕ) → word ≡ code ++ 47 ∷ vendor → All (λ c. c ≢ 47) code → a ≡ number_below (2 ^ 32) code → b ≡ number_below (2 ^ 32) vendor
-    → vendor_code word ≡ option_and_then (λ n. option_map (with_vendor n) b) a
-code_and_vendor word code vendor a b is others is_code is_vendor =
-    let (at, within, front, following) = first_byte 47 word code vendor is others in
+pub code_and_vendor : (mark : ℕ) (word code vendor : List ℕ) (a b : Option ℕ) → word ≡ code ++ mark ∷ vendor → All (λ c. c ≢ mark) code → a ≡ number_below (2 ^ 32) code → b ≡ number_below (2 ^ 32) vendor
+    → parted_code mark word ≡ option_and_then (λ n. option_map (with_vendor n) b) a
+code_and_vendor mark word code vendor a b is others is_code is_vendor =
+    let (at, within, front, following) = first_byte mark word code vendor is others in
     ap (λ (n : ℕ). vendor_cut n word) at ∙ rw (within, front, following, sym is_code, sym is_vendor) refl
 
-pub no_vendor : (word : List ℕ) → All (λ c. c ≢ 47) word → vendor_code word ≡ None
-no_vendor word others = rw (no_such_byte 47 word others) refl
+pub no_vendor : (mark : ℕ) (word : List ℕ) → All (λ c. c ≢ mark) word → parted_code mark word ≡ None
+no_vendor mark word others = rw (no_such_byte mark word others) refl
 
 abbrev text_cut : ℕ → List ℕ → Option (List ℕ × List ℕ)
 text_cut at text = if at == length text then None else option_map (λ bytes. (bytes, drop (at + 1) text)) (unescaped (slice_split (λ c. c == 92) (take at text)))

@@ -22,7 +22,7 @@ use Rattle.dia_text.specs.Words.{first_word, after_word}
 use Rattle.dia_text.specs.Numbers.{number_of, number_below, any_number, any_below, within}
 use Rattle.dia_text.specs.Reading.{◌>>=◌, some_or, at_word}
 use Rattle.dia_text.specs.Fields.{number_field, flags_field, length_field, padding_field}
-use Rattle.dia_text.specs.Keys.{is_no_slash, with_vendor, vendor_code, numbered, code_of_key, entry_named, code_of, default_flags, format_at, class_flags, p_flag, start_of, command_named, start_named}
+use Rattle.dia_text.specs.Keys.{is_other, with_vendor, parted_code, vendor_code, numbered, code_of_key, entry_named, code_of, default_flags, format_at, class_flags, p_flag, start_of, command_named, start_named}
 use Rattle.dia_text.specs.Values.{value_at, after_note}
 use Rattle.dia_text.specs.Drafts.{Level, added, no_level}
 use Rattle.dia_text.specs.Avps.{avp_letters, no_more, head_at, data_at, close_at, avp_at, part_at, in_line}
@@ -89,11 +89,11 @@ pair_fits None b h k = tt
 pair_fits (Some n) None h k = tt
 pair_fits (Some n) (Some m) h k = (h, k)
 
-vendor_fits : (word : List ℕ) → IfSome (vendor_code word) CodeFits
-vendor_fits word = by (at == length word)
+parted_fits : (mark : ℕ) (word : List ℕ) → IfSome (parted_code mark word) CodeFits
+parted_fits mark word = by (at == length word)
   where
     at : ℕ
-    at = prefix_len is_no_slash word
+    at = prefix_len (is_other mark) word
 
     both : Option AvpCode
     both = option_and_then (λ code. option_map (with_vendor code) (number_below (2 ^ 32) (drop (at + 1) word))) (number_below (2 ^ 32) (take at word))
@@ -125,7 +125,8 @@ code_fits : (d : Dictionary) (word : List ℕ) → NumbersFit d → IfOk (code_o
 code_fits d word fit =
     some_fits CodeFits (option_or (numbered word) (option_map (λ e. code_of_key e.key) (entry_named d word))) Name
     (either CodeFits (numbered word) (option_map (λ e. code_of_key e.key) (entry_named d word))
-    (either CodeFits (option_map (λ code. record { code = code; vendor = None }) (number_below (2 ^ 32) word)) (vendor_code word) (alone_fits (number_below (2 ^ 32) word) (number_fits (2 ^ 32) word)) (vendor_fits word))
+    (either CodeFits (option_map (λ code. record { code = code; vendor = None }) (number_below (2 ^ 32) word)) (vendor_code word) (alone_fits (number_below (2 ^ 32) word) (number_fits (2 ^ 32) word))
+    (either CodeFits (parted_code 47 word) (parted_code 58 word) (parted_fits 47 word) (parted_fits 58 word)))
     (named_fits (entry_named d word) (found_fits (λ e. KeyFits e.key) (λ e. same_bytes e.name word) d.entries fit.0)))
 
 head_fits : (d : Dictionary) (text : List ℕ) → NumbersFit d → IfOk (head_at d text) (λ x. CodeFits x.0.code)

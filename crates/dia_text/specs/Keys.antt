@@ -23,25 +23,33 @@ use Rattle.dia_text.specs.Reading.{some_or}
 
 -- ---- AVPs
 
-abbrev pub is_no_slash : ℕ → Bool
-is_no_slash c = not (c == 47)
+abbrev pub is_other : ℕ → ℕ → Bool
+is_other mark c = not (c == mark)
 
 abbrev pub with_vendor : ℕ → ℕ → AvpCode
 with_vendor code vendor = record { code = code; vendor = Some vendor }
 
--- CODE/VENDOR
-abbrev pub vendor_code : List ℕ → Option AvpCode
-vendor_code word =
-    let at = prefix_len is_no_slash word in
+-- CODE, a mark, and VENDOR
+abbrev pub parted_code : ℕ → List ℕ → Option AvpCode
+parted_code mark word =
+    let at = prefix_len (is_other mark) word in
     if at == length word then None
     else option_and_then (λ code. option_map (with_vendor code) (number_below (2 ^ 32) (drop (at + 1) word))) (number_below (2 ^ 32) (take at word))
 
--- CODE, or CODE/VENDOR
+-- CODE/VENDOR, or CODE:VENDOR
+abbrev pub vendor_code : List ℕ → Option AvpCode
+vendor_code word = option_or (parted_code 47 word) (parted_code 58 word)
+
+-- CODE, or one with a vendor
 abbrev pub numbered : List ℕ → Option AvpCode
 numbered word = option_or (option_map (λ code. record { code = code; vendor = None }) (number_below (2 ^ 32) word)) (vendor_code word)
 
 abbrev pub code_of_key : Key → AvpCode
 code_of_key key = record { code = key.code; vendor = if key.vendor == 0 then None else Some key.vendor }
+
+-- a code without Vendor-ID is that of an AVP of vendor 0
+abbrev pub key_of_code : AvpCode → Key
+key_of_code c = record { code = c.code; vendor = unwrap_or c.vendor 0 }
 
 abbrev pub entry_named : Dictionary → List ℕ → Option DictEntry
 entry_named d word = find (λ e. same_bytes e.name word) d.entries
@@ -52,7 +60,7 @@ code_of d word = some_or (option_or (numbered word) (option_map (λ e. code_of_k
 
 -- what the dictionary knows of an AVP
 abbrev pub entry_at : Dictionary → AvpCode → Option DictEntry
-entry_at d c = option_and_then (slice_get d.entries) (entry_of d (record { code = c.code; vendor = unwrap_or c.vendor 0 }))
+entry_at d c = option_and_then (slice_get d.entries) (entry_of d (key_of_code c))
 
 abbrev pub format_at : Dictionary → AvpCode → Option PlainFormat
 format_at d c = option_map (λ e. e.format) (entry_at d c)

@@ -3,7 +3,7 @@ ghost use Rattle.std.specs.Prelude.{◌≡◌, ◌<◌, ◌≤◌, length};
 ghost use Rattle.std.specs.Prelude.{option_and_then, slice_get, IfSome};
 ghost use Rattle.std.specs.Option.{option_map};
 ghost use Rattle.dia_data.specs.Plain.{plain_format};
-ghost use Rattle.dia_text.specs.Keys.{numbered, vendor_code};
+ghost use Rattle.dia_text.specs.Keys.{numbered, parted_code, vendor_code};
 ghost use Rattle.dia_text.specs.Keys.{code_of_key, code_of};
 ghost use Rattle.dia_text.specs.Keys.{entry_at, format_at, m_flag, default_flags};
 
@@ -21,7 +21,22 @@ pub struct AvpCode {
     pub vendor: Option<u32>,
 }
 
-/// The AVP of a word: `CODE` or `CODE/VENDOR`, or else a name of the dictionary.
+impl AvpCode {
+    ghost use Rattle.std.specs.Prelude.{◌≡◌};
+    ghost use Rattle.dia_text.specs.Keys.{key_of_code};
+
+    /// The AVP's key: without a Vendor-ID its vendor is 0.
+    pub fn key(&self) -> Key
+        ensures { result ≡ key_of_code self.now }
+    {
+        Key {
+            code: self.code,
+            vendor: self.vendor.unwrap_or(0),
+        }
+    }
+}
+
+/// The AVP of a word: `CODE`, `CODE/VENDOR` or `CODE:VENDOR`, or else a name of the dictionary.
 pub(crate) fn code_of<B: Book>(named: &NamedBook<'_, B>, word: &[u8]) -> Result<AvpCode, Kind>
     ensures { result ≡ code_of named.now word.now }
 {
@@ -34,7 +49,8 @@ pub(crate) fn code_of<B: Book>(named: &NamedBook<'_, B>, word: &[u8]) -> Result<
     }
 }
 
-pub(crate) fn numbered(word: &[u8]) -> Option<AvpCode>
+/// The AVP of a word `CODE`, `CODE/VENDOR` or `CODE:VENDOR`, of decimal numbers below 2^32.
+pub fn numbered(word: &[u8]) -> Option<AvpCode>
     ensures { result ≡ numbered word.now }
 {
     match number32(word) {
@@ -46,7 +62,17 @@ pub(crate) fn numbered(word: &[u8]) -> Option<AvpCode>
 fn vendor_code(word: &[u8]) -> Option<AvpCode>
     ensures { result ≡ vendor_code word.now }
 {
-    let (code, vendor) = split_once(b'/', word)?;
+    match parted_code(b'/', word) {
+        Some(code) => Some(code),
+        None => parted_code(b':', word),
+    }
+}
+
+/// The AVP of `CODE`, this mark, and `VENDOR`.
+fn parted_code(mark: u8, word: &[u8]) -> Option<AvpCode>
+    ensures { result ≡ parted_code mark word.now }
+{
+    let (code, vendor) = split_once(mark, word)?;
     let code = number32(code)?;
     let vendor = number32(vendor)?;
     Some(AvpCode {
@@ -73,10 +99,7 @@ pub(crate) fn entry<B: Book>(book: &B, code: &AvpCode) -> Option<Entry>
         ≡ entry_at (B.meaning book.now) code.now }
     ensures known { IfSome result (λ entry. entry < length (B.meaning book.now).entries) }
 {
-    book.avp(Key {
-        code: code.code,
-        vendor: code.vendor.unwrap_or(0),
-    })
+    book.avp(code.key())
 }
 
 /// The format of an AVP that the dictionary knows.

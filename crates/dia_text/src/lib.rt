@@ -52,7 +52,7 @@ mod writing;
 
 pub use fault::{Fault, Kind, Misfit, Misread, NotMade, NotRead, Wanted};
 pub use faults::{Faults, MAX_FAULTS, all_faults};
-pub use keys::AvpCode;
+pub use keys::{AvpCode, numbered};
 pub use laws::{
     groups_are_read_to_their_end, named_headers_have_their_flags, valid_texts_make_valid_messages,
 };

@@ -11,9 +11,10 @@ ghost use Rattle.dia_uses.specs.Kinds.{AreWithin};
 ghost use Rattle.dia_uses.specs.Outcome.{IsUsesOutcome, IsUsesText, all_lines};
 ghost use Rattle.dia_uses.specs.Outcome.{nowhere_text, unknown_text};
 
-use crate::notes::{Tally, notes_of, unknown_note};
+use crate::notes::{Tally, notes_of};
 use crate::writing::push_lines;
 use dia_book::Book;
+use dia_explain_places::unknown_avp;
 use dia_io::{Exit, Inputs, RunFault, Sink, put_all};
 use dia_places::{Reached, all_reached, asked};
 use dia_refused_json::{quoted, refuse_as};
@@ -26,8 +27,8 @@ use std::alloc::{AllocError, Global};
 /// order of the words: first those with a rule for it, then those that let it in by a wildcard. Without any line it writes
 /// `no place`, and ends with `No`.
 ///
-/// A word is a name, or `CODE[:VENDOR]`. What is written is made first, and then written in whatever pieces the sink takes.
-/// `notes` gets what standard error is to say: nothing if memory is refused for it.
+/// A word is a name, or `CODE`, `CODE:VENDOR` or `CODE/VENDOR`. What is written is made first, and then written in whatever
+/// pieces the sink takes. `notes` gets what standard error is to say: nothing if memory is refused for it.
 pub fn write_uses<S: Sink>(
     alloc: Global,
     json: bool,
@@ -108,7 +109,7 @@ fn answer<B: Book>(
 
 /// Says on standard error what is meant by the word, if there is memory for it.
 fn note_unknown<B: Book>(alloc: Global, book: &B, word: &str, notes: &mut String) {
-    if let Ok(said) = unknown_note(alloc, book, word) {
+    if let Ok(said) = unknown_avp(alloc, book, word) {
         *notes = said;
     }
 }

@@ -2,7 +2,6 @@
 
 use crate::writing::{Counts, avp_words};
 use dia_book::Book;
-use dia_explain_places::{Note, nearest_name};
 use dia_wire::Key;
 use std::alloc::{AllocError, Global};
 
@@ -43,43 +42,6 @@ fn push_same_code<B: Book>(out: &mut String, book: &B, key: Key) -> Result<(), A
         }
     }
     Ok(())
-}
-
-/// What is meant by a word that names no AVP: a command, or the AVP with the nearest name.
-pub(crate) fn unknown_note<B: Book>(
-    alloc: Global,
-    book: &B,
-    word: &str,
-) -> Result<String, AllocError> {
-    let mut note = Note::new(alloc);
-    if is_command(book, word) {
-        note.put_all(&[
-            "hint: ",
-            word,
-            " is a command there, and AVPs are asked for\n",
-        ]);
-    } else if let Some(near) = nearest_name(word, &names(alloc, book)?) {
-        note.put_all(&["hint: did you mean ", near, "?\n"]);
-    }
-    note.finish()
-}
-
-fn is_command<B: Book>(book: &B, word: &str) -> bool {
-    for index in 0..book.commands() {
-        if book.def(book.command_at(index)).name.as_str() == word {
-            return true;
-        }
-    }
-    false
-}
-
-/// The names of all AVPs.
-fn names<B: Book>(alloc: Global, book: &B) -> Result<Vec<&str>, AllocError> {
-    let mut names = Vec::new(alloc);
-    for index in 0..book.entries() {
-        names.push(book.entry_name(book.entry_at(index)))?;
-    }
-    Ok(names)
 }
 
 fn push_counts(out: &mut String, counts: Counts) -> Result<(), AllocError> {

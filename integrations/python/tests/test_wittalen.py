@@ -86,8 +86,18 @@ class Checks(unittest.TestCase):
         messages = [report(1), report(1, 2, 3), b"", report(1)[:-1], report(2, 2)]
         self.assertEqual(book.check_many(messages), [book.check(message) for message in messages])
         self.assertEqual(book.check_many(iter(())), [])
-        with self.assertRaises(TypeError):
-            book.check_many(["a"])
+        self.assertEqual(book.check_many([bytearray(report(1)), memoryview(report(1, 2, 3))]), book.check_many(messages[:2]))
+        for wrong in (["a"], [report(1), None]):
+            with self.assertRaises(TypeError):
+                book.check_many(wrong)
+
+    def test_many_verdicts(self):
+        # more verdicts than are stored, each with another AVP after Usage
+        book, codes = Dictionary(USAGE + " [ AVP ]"), range(10_000, 10_000 + 2 * dictionaries.STORED)
+        messages = [report(1, 2)[:32] + code.to_bytes(4, "big") + report(1, 2)[36:] for code in codes]
+        for _ in range(2):
+            found = book.check_many(messages, refuse_unknown=True)
+            self.assertEqual([str(verdict) for verdict in found], [f"fault 5001 at 32 unknown {code}:0" for code in codes])
 
     def test_answered(self):
         book = Dictionary()
@@ -113,6 +123,25 @@ class Checks(unittest.TestCase):
         self.assertEqual(book.avps(report()), [])
         with self.assertRaises(ValueError):
             book.avps(report(1)[:-1])
+
+    def test_avp_lengths(self):
+        book = Dictionary("%avp A 1 OctetString any\nB ::= < AVP Header: 2 > *[ A ]")
+        # B at 20 has an A of 8 bytes, and then one whose AVP Length is 7; another A is at 44
+        message = bytes.fromhex("0100003480000" "12e" + "00" * 12 + "0000000200000018" + "0000000100000008" + "0000000100000007" + "0000000100000008")
+        self.assertEqual([(avp.offset, avp.depth) for avp in book.avps(message)], [(20, 0), (28, 1), (44, 0)])
+
+    def test_found(self):
+        book = Dictionary("%avp A 1 OctetString any\n%avp C 1 vendor 10415 OctetString any\nB ::= < AVP Header: 2 > *[ A ]")
+        # B at 20 has an A of 8 bytes at 28; then follow C at 36, of 12 bytes, A at 48, of 9, and A at 60
+        body = "00000002000000100000000100000008" + "000000018000000c000028af" + "0000000100000009ff000000" + "0000000100000008"
+        message = bytes.fromhex("010000448000012e" + "00" * 12 + body)
+        self.assertEqual(book.find(message, 1), wittalen.Avp(48, 0, 9, 1, 0, 0, "A", "OctetString", b"\xff"))
+        self.assertEqual([found and found.offset for found in (book.find(message, 1, 10415), book.find(message, 2))], [36, 20])
+        self.assertIsNone(book.find(message, 3))
+        with self.assertRaises(ValueError):
+            book.find(message[1:], 1)
+        with self.assertRaises(ValueError):
+            book.find(message, 1 << 32)
 
     def test_avps_at(self):
         book = Dictionary("%avp A 1 OctetString any\nB ::= < AVP Header: 2 > *[ A ]")
@@ -172,6 +201,14 @@ class Checks(unittest.TestCase):
         # another version, a length of less than 20, and too few bytes
         for header in (b"\2" + BARE[1:], b"\1\0\0\x10" + BARE[4:], BARE[:19]):
             self.assertIsNone(wittalen.message_length(header))
+
+    def test_header(self):
+        # CCR of RFC 8506: R and P are set
+        found = wittalen.header(bytes.fromhex("0100002cc0000110000000040000000500000006") + b"rest")
+        self.assertEqual(found, (44, 0xC0, 272, 4, 5, 6))
+        self.assertTrue(found.is_request and found.is_proxiable and not found.is_error)
+        for wrong in (b"\2" + BARE[1:], b"\1\0\0\x10" + BARE[4:], BARE[:19]):
+            self.assertIsNone(wittalen.header(wrong))
 
     def test_threads(self):
         book, wrong = Dictionary(USAGE), []
@@ -257,7 +294,8 @@ class Dictionaries(unittest.TestCase):
         again = pickle.loads(pickle.dumps(wittalen.DictionaryError([fault])))
         self.assertEqual((again.faults, str(again)), ([fault], "2:56: undefined-name Report X"))
         again = pickle.loads(pickle.dumps(wittalen.InputError("syntax", 2)))
-        self.assertEqual((again.kind, again.line), ("syntax", 2))
+        self.assertEqual((again.kind, again.line, str(again)), ("syntax", 2, "line 2: syntax"))
+        self.assertEqual(str(pickle.loads(pickle.dumps(wittalen.InputError("syntax", 2, 3)))), "2:3: syntax")
 
     def test_files(self):
         folder = HEADER.parent.parent / "dictionaries"
@@ -288,6 +326,9 @@ class Upgrades(unittest.TestCase):
         with self.assertRaises(wittalen.InputError) as caught:
             wittalen.compare(wide, narrow, "\ncommand Report")
         self.assertEqual((caught.exception.kind, caught.exception.line), ("syntax", 2))
+        with self.assertRaises(wittalen.InputError) as caught:
+            wittalen.compare(wide, narrow, "avp Usage = Usage\n  xx Report = Report")
+        self.assertEqual((caught.exception.line, caught.exception.column, str(caught.exception)), (2, 3, "2:3: syntax"))
         # one dictionary against itself
         self.assertTrue(wittalen.compare(wide, wide, table))
 

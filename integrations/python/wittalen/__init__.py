@@ -9,8 +9,8 @@
 Several threads may use one object where Python has its global lock; of a Peer, one at a time."""
 
 from .dictionaries import (
-    Answer, Avp, Class, Command, Dictionary, DictionaryError, Entry, Fault, Flag, Form, Outcome, Stream, Verdict, explain, faults,
-    message_length, render, split,
+    Answer, Avp, Class, Command, Dictionary, DictionaryError, Entry, Fault, Flag, Form, Header, Outcome, Stream, Verdict, explain,
+    faults, header, message_length, render, split,
 )  # fmt: skip
 from .peers import RELAY, Application, Cause, Output, Peer, Role, State, Timer, Why
 from .upgrades import Comparison, InputError, Sends, Upgrade, breaking, compare
@@ -19,7 +19,7 @@ __version__ = "1.0.0"
 
 __all__ = [
     "RELAY", "Answer", "Application", "Avp", "Cause", "Class", "Command", "Comparison", "Dictionary", "DictionaryError", "Entry",
-    "Fault", "Flag", "Form", "InputError", "Outcome", "Output",
+    "Fault", "Flag", "Form", "Header", "InputError", "Outcome", "Output",
     "Peer", "Role", "Sends", "State", "Stream", "Timer", "Upgrade", "Verdict", "Why", "breaking", "compare", "explain", "faults",
-    "message_length", "render", "split",
+    "header", "message_length", "render", "split",
 ]  # fmt: skip

@@ -36,11 +36,15 @@ class RawVerdict(c.Structure):
     _fields_ = [
         (name, c.c_uint32)
         for name in ("outcome", "command", "code", "place", "reason", "subject", "avp_code", "avp_vendor")
-    ]
+    ] + [("reserved", c.c_uint32 * 4)]
 
 
 class Fed(c.Structure):
     _fields_ = [("taken", c.c_size_t), ("done", c.c_uint32)]
+
+
+class RawHeader(c.Structure):
+    _fields_ = [(name, c.c_uint32) for name in ("length", "flags", "code", "app", "hop", "e2e")]
 
 
 class Ip(c.Structure):
@@ -79,7 +83,7 @@ class RawAvp(c.Structure):
     _fields_ = (
         [(name, c.c_size_t) for name in ("place", "depth", "length", "data_place", "data_length", "name_count")]
         + [(name, c.c_uint32) for name in ("code", "vendor", "flags", "format")]
-        + [("name", c.c_uint8 * MAX_NAME)]
+        + [("name", c.c_uint8 * MAX_NAME), ("reserved", c.c_uint64 * 4)]
     )
 
 
@@ -122,9 +126,11 @@ CALLS: dict[str, tuple[Any, ...]] = {
     "check_json": (H, U, U, B, S, H),
     "check_many": (H, U, U, B, S, SIZE, S, VERDICT, S),
     "message_length": (B, S, NUMBER, VERDICT),
+    "header": (B, S, c.POINTER(RawHeader), VERDICT),
     "answer": (H, U, U, B, S, B, S, B, S, H, NUMBER, VERDICT),
     "avps": (H, B, S, c.POINTER(RawAvp), S, SIZE, SIZE, VERDICT),
     "avps_at": (H, B, S, S, c.POINTER(RawAvp), S, SIZE, VERDICT),
+    "avp_find": (H, B, S, U, U, c.POINTER(RawAvp), VERDICT),
     "stream_open": (H, U, U, H),
     "stream_feed": (H, B, S, c.POINTER(Fed)),
     "stream_finish": (H, VERDICT),
@@ -136,6 +142,7 @@ CALLS: dict[str, tuple[Any, ...]] = {
     "text_length": (H, SIZE),
     "text_close": (H,),
     "compare": (H, H, U, B, S, H, NUMBER, PROBLEM),
+    "table_place": (B, S, U, U),
     "peer_open_with": (c.POINTER(PeerOptions), H, NUMBER),
     "peer_event": (H, U, B, S, U),
     "peer_output": (H, NUMBER, B, S, SIZE, NUMBER),
@@ -166,7 +173,7 @@ def declare(library: c.CDLL, calls: dict[str, tuple[Any, ...]]) -> c.CDLL:
     for name, types in calls.items():
         call = getattr(library, f"dia_{name}")
         call.argtypes = types
-        call.restype = None if name.endswith("_close") or name == "line_column" else U
+        call.restype = None if name.endswith("_close") or name == "line_column" else S if name == "table_place" else U
     return library
 
 

@@ -5,6 +5,7 @@ from __future__ import annotations
 import ctypes as c
 import json
 import os
+from array import array
 from dataclasses import dataclass
 from enum import IntEnum
 from functools import lru_cache
@@ -22,6 +23,10 @@ REASONS = (
 """The reasons of docs/FAULTS.md, by their numbers in dia.h. A later library may have more."""
 SUBJECTS = {0: None, 2: "AVP"}
 """The subjects of faults that are no AVP of one code and vendor: none, and the AVPs that no rule lists."""
+STORED = 1024
+"""How many verdicts of a dictionary are stored, to be returned again."""
+SIZES = "Q" if c.sizeof(c.c_size_t) == 8 else "I"
+"""The type code of an array of size_t."""
 FORMATS = (
     "OctetString", "Integer32", "Integer64", "Unsigned32", "Unsigned64", "Float32", "Float64", "Grouped", "Address", "Time",
     "UTF8String", "DiameterIdentity", "DiameterURI", "Enumerated", "IPFilterRule", "QoSFilterRule",
@@ -29,8 +34,8 @@ FORMATS = (
 """The data formats of docs/FORMATS.md, from number 1 of dia.h on."""
 
 
-WORDS = Struct("=8I")
-"""The fields of a RawVerdict, which are all numbers of 32 bits."""
+WORDS = Struct(f"=8I{c.sizeof(RawVerdict) - 32}x")
+"""The fields of a RawVerdict, which are all numbers of 32 bits, without those that are reserved."""
 
 
 class Outcome(IntEnum):
@@ -60,6 +65,69 @@ class Verdict(NamedTuple):
         if self.outcome is Outcome.FAULT:
             return f"fault {self.code} at {self.offset} {self.reason} {self.avp or '-'}"
         return f"valid {self.command}" if self else self.outcome.name.lower()
+
+
+class Verdicts(dict[tuple[int, ...], Verdict]):
+    """The verdicts of a dictionary by the fields of a RawVerdict."""
+
+    def __init__(self, handle: _lib.Handle, names: dict[tuple[int, ...], str]):
+        super().__init__()
+        self._handle, self.names = handle, names
+
+    def __missing__(self, words: tuple[int, ...]) -> Verdict:
+        made = self._made(*words)
+        if len(self) < STORED:
+            self[words] = made
+        return made
+
+    def of(self, raw: RawVerdict) -> Verdict:
+        return self[WORDS.unpack_from(raw)]
+
+    def _made(
+        self, outcome: int, command: int, code: int, offset: int, reason: int, subject: int, avp_code: int, avp_vendor: int
+    ) -> Verdict:
+        if outcome == Outcome.VALID:
+            return Verdict(Outcome.VALID, self._name(lib.dia_command_name, (command,)))
+        if outcome != Outcome.FAULT:
+            return Verdict(Outcome(outcome))
+        avp = SUBJECTS[subject] if subject in SUBJECTS else self._name(lib.dia_avp_name, (avp_code, avp_vendor))
+        word = REASONS[reason] if reason < len(REASONS) else f"reason-{reason}"
+        return Verdict(Outcome.FAULT, None, code, offset, word, avp)
+
+    def _name(self, look_up: Any, key: tuple[int, ...]) -> str:
+        name = self.names.get(key)
+        if name is None:
+            room, count = c.create_string_buffer(_lib.MAX_NAME), c.c_size_t()
+            status = look_up(self._handle, *key, room, _lib.MAX_NAME, count)
+            if status == _lib.NONE:
+                return ":".join(map(str, key))
+            require(status)
+            name = self.names[key] = room.raw[: count.value].decode()
+        return name
+
+
+class Header(NamedTuple):
+    """The header of a message (RFC 6733 section 3). `length` is Message Length, `flags` are the eight Command Flags, and `code` is the
+    Command Code."""
+
+    length: int
+    flags: int
+    code: int
+    application: int
+    hop_by_hop: int
+    end_to_end: int
+
+    @property
+    def is_request(self) -> bool:
+        return self.flags & 0x80 != 0
+
+    @property
+    def is_proxiable(self) -> bool:
+        return self.flags & 0x40 != 0
+
+    @property
+    def is_error(self) -> bool:
+        return self.flags & 0x20 != 0
 
 
 class Form(IntEnum):
@@ -165,8 +233,7 @@ class Dictionary(Owner):
 
     def __init__(self, text: Union[str, bytes, None] = None):
         super().__init__()
-        self._names: dict[Any, str] = {}
-        self._valid: dict[int, Verdict] = {}
+        self._verdicts = Verdicts(self._handle, {})
         if text is None:
             require(lib.dia_dict_open_base(self._handle))
             return
@@ -189,7 +256,8 @@ class Dictionary(Owner):
     def share(self) -> Dictionary:
         """The same dictionary with a handle of its own, which takes no time. It stays open when this one is closed."""
         other = Dictionary.__new__(Dictionary)
-        other._handle, other._names, other._valid = _lib.Handle(), self._names, self._valid
+        other._handle = _lib.Handle()
+        other._verdicts = Verdicts(other._handle, self._verdicts.names)
         require(lib.dia_dict_share(self._handle, other._handle))
         return other
 
@@ -225,7 +293,7 @@ class Dictionary(Owner):
         clear; `levels` is how many grouped AVPs may be open in one another (None: any number)."""
         raw, data = RawVerdict(), octets(message)
         require(lib.dia_check(self._handle, bool(refuse_unknown), levels_of(levels), data, len(data), raw))
-        return self._verdict(raw)
+        return self._verdicts.of(raw)
 
     def check_json(self, message: bytes, *, refuse_unknown: bool = False, levels: Optional[int] = None) -> dict[str, Any]:
         """The object that `diacmd check --json` writes (docs/JSON.md)."""
@@ -238,12 +306,13 @@ class Dictionary(Owner):
         self, messages: Iterable[bytes], *, refuse_unknown: bool = False, levels: Optional[int] = None
     ) -> list[Verdict]:
         """The verdict of `check` on each of the messages, in their order. It takes less time than a call for each."""
-        parts = [octets(message) for message in messages]
-        ends, raws = (c.c_size_t * len(parts))(*accumulate(map(len, parts))), (RawVerdict * len(parts))()
+        parts = all_octets(messages)
+        ends, raws = array(SIZES, accumulate(map(len, parts))), (RawVerdict * len(parts))()
         data = b"".join(parts)
         policy = bool(refuse_unknown), levels_of(levels)
-        require(lib.dia_check_many(self._handle, *policy, data, len(data), ends, len(parts), raws, len(parts)))
-        return [self._verdict_of(*words) for words in WORDS.iter_unpack(raws)]
+        places = (c.c_size_t * len(parts)).from_buffer(ends)
+        require(lib.dia_check_many(self._handle, *policy, data, len(data), places, len(parts), raws, len(parts)))
+        return list(map(self._verdicts.__getitem__, WORDS.iter_unpack(raws)))
 
     def answer(
         self, message: bytes, host: str, realm: str, *, refuse_unknown: bool = False, levels: Optional[int] = None
@@ -259,11 +328,11 @@ class Dictionary(Owner):
         if status == _lib.BAD_ARGUMENT:
             raise ValueError(f"no names of a node: {host!r}, {realm!r}")
         require(status)
-        return Answer(text.read_bytes(), Form(form.value), self._verdict(raw))
+        return Answer(text.read_bytes(), Form(form.value), self._verdicts.of(raw))
 
     def avps(self, message: bytes) -> list[Avp]:
         """The AVPs of a message, each group that the dictionary has followed by its members. An AVP Length that no AVP can have
-        ends them. Raises ValueError where the bytes have no message's header and length."""
+        ends its own level. Raises ValueError where the bytes have no message's header and length."""
         count, end, raw, data = c.c_size_t(), c.c_size_t(), RawVerdict(), octets(message)
         room = 64
         while True:
@@ -273,7 +342,7 @@ class Dictionary(Owner):
                 break
             room = count.value
         if status == _lib.REFUSED:
-            raise ValueError(str(self._verdict(raw)))
+            raise ValueError(str(self._verdicts.of(raw)))
         require(status)
         return [avp_of(avp, data) for avp in found[: count.value]]
 
@@ -290,9 +359,21 @@ class Dictionary(Owner):
                 break
             room = count.value
         if status == _lib.REFUSED:
-            raise ValueError(str(self._verdict(raw)))
+            raise ValueError(str(self._verdicts.of(raw)))
         require(status)
         return [avp_of(avp, data) for avp in found[: count.value]]
+
+    def find(self, message: bytes, code: int, vendor: int = 0) -> Optional[Avp]:
+        """The first AVP of a message that has this code and this vendor, 0 for none, and is in no group. Raises ValueError as `avps`."""
+        found, raw, data = _lib.RawAvp(), RawVerdict(), octets(message)
+        key = u32(code, "code"), u32(vendor, "vendor")
+        status = lib.dia_avp_find(self._handle, data, len(data), *key, found, raw)
+        if status == _lib.NONE:
+            return None
+        if status == _lib.REFUSED:
+            raise ValueError(str(self._verdicts.of(raw)))
+        require(status)
+        return avp_of(found, data)
 
     def show(self, message: bytes) -> str:
         """The lines that `diacmd show` writes, with the dictionary's names. Raises ValueError where the bytes have no message's
@@ -300,42 +381,13 @@ class Dictionary(Owner):
         text, whole, raw, data = Text(), c.c_uint32(), RawVerdict(), octets(message)
         status = lib.dia_show(self._handle, data, len(data), text._handle, whole, raw)
         if status == _lib.REFUSED:
-            raise ValueError(str(self._verdict(raw)))
+            raise ValueError(str(self._verdicts.of(raw)))
         require(status)
         return text.read()
 
     def stream(self, *, refuse_unknown: bool = False, levels: Optional[int] = None) -> Stream:
         """A message that comes in pieces, of which nothing came yet. The options are those of `check`."""
         return Stream(self, refuse_unknown, levels)
-
-    def _verdict(self, raw: RawVerdict) -> Verdict:
-        return self._verdict_of(*WORDS.unpack_from(raw))
-
-    def _verdict_of(
-        self, outcome: int, command: int, code: int, offset: int, reason: int, subject: int, avp_code: int, avp_vendor: int
-    ) -> Verdict:
-        """The verdict with these fields of a RawVerdict."""
-        if outcome == Outcome.VALID:
-            known = self._valid.get(command)
-            if known is None:
-                known = self._valid[command] = Verdict(Outcome.VALID, self._name(lib.dia_command_name, (command,)))
-            return known
-        if outcome != Outcome.FAULT:
-            return Verdict(Outcome(outcome))
-        avp = SUBJECTS[subject] if subject in SUBJECTS else self._name(lib.dia_avp_name, (avp_code, avp_vendor))
-        word = REASONS[reason] if reason < len(REASONS) else f"reason-{reason}"
-        return Verdict(Outcome.FAULT, None, code, offset, word, avp)
-
-    def _name(self, look_up: Any, key: tuple[int, ...]) -> str:
-        name = self._names.get(key)
-        if name is None:
-            room, count = c.create_string_buffer(_lib.MAX_NAME), c.c_size_t()
-            status = look_up(self._handle, *key, room, _lib.MAX_NAME, count)
-            if status == _lib.NONE:
-                return ":".join(map(str, key))
-            require(status)
-            name = self._names[key] = room.raw[: count.value].decode()
-        return name
 
 
 class Stream(Owner):
@@ -360,13 +412,13 @@ class Stream(Owner):
         """The verdict on all bytes that came. It closes the stream."""
         raw = RawVerdict()
         require(lib.dia_stream_finish(self._handle, raw))
-        return self._dictionary._verdict(raw)
+        return self._dictionary._verdicts.of(raw)
 
     def again(self) -> Verdict:
         """The verdict on all bytes that came. The stream stays open for the next message, also after MemoryError."""
         raw, self.done = RawVerdict(), False
         require(lib.dia_stream_again(self._handle, raw))
-        return self._dictionary._verdict(raw)
+        return self._dictionary._verdicts.of(raw)
 
 
 def faults(text: Union[str, bytes]) -> list[Fault]:
@@ -413,6 +465,14 @@ def message_length(header: bytes) -> Optional[int]:
     return length.value if status == _lib.OK else None
 
 
+def header(data: bytes) -> Optional[Header]:
+    """The header with which the bytes begin, at least 20; None where no message begins so, as of `message_length`."""
+    raw, begin = _lib.RawHeader(), octets(data)
+    if lib.dia_header(begin, len(begin), raw, RawVerdict()) != _lib.OK:
+        return None
+    return Header(raw.length, raw.flags, raw.code, raw.app, raw.hop, raw.e2e)
+
+
 def split(data: bytes) -> Iterator[bytes]:
     """The messages that follow one another in the bytes, by their Message Length. Bytes that begin none are the last, as is a
     message that is cut."""
@@ -426,6 +486,12 @@ def split(data: bytes) -> Iterator[bytes]:
 
 class _Faults(Owner):
     _closing = "dia_faults_close"
+
+
+def all_octets(messages: Iterable[bytes]) -> list[bytes]:
+    """The bytes of each of the messages."""
+    parts = list(messages)
+    return parts if set(map(type, parts)) <= {bytes} else [octets(part) for part in parts]
 
 
 def avp_of(raw: _lib.RawAvp, data: bytes) -> Avp:

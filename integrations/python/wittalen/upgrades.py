@@ -9,7 +9,7 @@ from typing import Any, Iterable, Union
 
 from . import _lib
 from ._lib import Problem, Text, lib, lib_breaking, require, text_octets
-from .dictionaries import Dictionary, kind_of
+from .dictionaries import Dictionary, kind_of, lines_columns
 
 
 class Sends(IntEnum):
@@ -45,15 +45,15 @@ class Comparison:
 
 
 class InputError(ValueError):
-    """A table, a list or a name is refused: its kind (docs/FAULTS.md), and its line, from 1; 0 where it is no line's. Of names of
-    commands it is the number of the name."""
+    """A table, a list or a name is refused: its kind (docs/FAULTS.md), its line and its column, from 1. The line is 0 where the whole
+    input is at fault; of names of commands it is the number of the name. The column is 0 but in a table."""
 
-    def __init__(self, kind: str, line: int):
-        self.kind, self.line = kind, line
-        super().__init__(f"line {line}: {kind}" if line else kind)
+    def __init__(self, kind: str, line: int, column: int = 0):
+        self.kind, self.line, self.column = kind, line, column
+        super().__init__(f"{line}:{column}: {kind}" if column else f"line {line}: {kind}" if line else kind)
 
     def __reduce__(self) -> Any:
-        return type(self), (self.kind, self.line)
+        return type(self), (self.kind, self.line, self.column)
 
 
 def breaking(
@@ -90,6 +90,10 @@ def compare(a: Dictionary, b: Dictionary, table: str, *, refuse_unknown: bool = 
     with a.share() as first, b.share() as second:
         words = (first._handle, second._handle, bool(refuse_unknown), data, len(data))
         status = lib.dia_compare(*words, line._handle, holds, problem)
+    if status == _lib.REFUSED and problem.line:
+        place = lib.dia_table_place(data, len(data), problem.kind, problem.line)
+        _, column = lines_columns(data, [place])[place]
+        raise InputError(kind_of(problem.kind), problem.line, column)
     _require_input(status, problem)
     return Comparison(bool(holds.value), line.read().rstrip("\n"))
 

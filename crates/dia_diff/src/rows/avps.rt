@@ -82,4 +82,92 @@ pub(super) const ROWS: &str = r#"== an M rule; options listed; status 1
 <C> ::= < Diameter Header: 302, REQ > * [ AVP ]
 --
 - AVP Y 9002 Unsigned32 any; breaks A to B
+== four bytes are read as another number; options listed; status 1
+%avp X 9001 Float32 any
+<C> ::= < Diameter Header: 302, REQ > [ X ]
+--
+%avp X 9001 Unsigned32 any
+<C> ::= < Diameter Header: 302, REQ > [ X ]
+--
+~ AVP X: format Float32 -> Unsigned32; read as another format A to B, read as another format B to A
+== the same, where no message has it; options listed; status 1
+%avp X 9001 Float32 any
+<C> ::= < Diameter Header: 302, REQ > * [ AVP ]
+--
+%avp X 9001 Unsigned32 any
+<C> ::= < Diameter Header: 302, REQ > * [ AVP ]
+--
+~ AVP X: format Float32 -> Unsigned32
+== the same, and the flags break; options listed; status 1
+%avp X 9001 Float32 must
+<C> ::= < Diameter Header: 302, REQ > [ X ]
+--
+%avp X 9001 Unsigned32 mustnot
+<C> ::= < Diameter Header: 302, REQ > [ X ]
+--
+~ AVP X: format Float32 -> Unsigned32
+~ AVP X: M must -> mustnot; breaks A to B, breaks B to A
+== a format that takes all data of another; options listed; status 1
+%avp X 9001 Unsigned32 any
+<C> ::= < Diameter Header: 302, REQ > [ X ]
+--
+%avp X 9001 OctetString any
+<C> ::= < Diameter Header: 302, REQ > [ X ]
+--
+~ AVP X: format Unsigned32 -> OctetString; breaks B to A
+== a group that is read as octets; options listed; status 1
+%avp X 9001 Unsigned32 any
+%avp G 9003 Grouped any
+<G> ::= < AVP Header: 9003 > [ X ]
+<C> ::= < Diameter Header: 302, REQ > [ G ]
+--
+%avp X 9001 Unsigned32 any
+%avp G 9003 OctetString any
+<C> ::= < Diameter Header: 302, REQ > [ G ]
+--
+~ AVP G: format Grouped -> OctetString; breaks B to A, read as another format A to B
+- AVP G: [ X ] 0..1
+== a code, with the M flag clear; options listed; status 1
+%avp X 9001 Unsigned32 mustnot
+<C> ::= < Diameter Header: 302, REQ > [ X ] * [ AVP ]
+--
+%avp X 9002 Unsigned32 mustnot
+<C> ::= < Diameter Header: 302, REQ > [ X ] * [ AVP ]
+--
+~ AVP X: code 9001 -> 9002; ignored A to B, ignored B to A
+== a code, and the counts of its rule; options listed; status 1
+%avp X 9001 Unsigned32 mustnot
+<C> ::= < Diameter Header: 302, REQ > { X } * [ AVP ]
+--
+%avp X 9002 Unsigned32 mustnot
+<C> ::= < Diameter Header: 302, REQ > [ X ] * [ AVP ]
+--
+~ AVP X: code 9001 -> 9002; ignored A to B, ignored B to A
+~ command C: { X } 1 -> [ X ] 0..1; breaks B to A
+== a code, where the M flag may be set; options listed; status 1
+%avp X 9001 Unsigned32 any
+<C> ::= < Diameter Header: 302, REQ > [ X ] * [ AVP ]
+--
+%avp X 9002 Unsigned32 any
+<C> ::= < Diameter Header: 302, REQ > [ X ] * [ AVP ]
+--
+~ AVP X: code 9001 -> 9002; breaks A to B, breaks B to A
+== a code, where unknown AVPs are refused; options listed refused; status 1
+%avp X 9001 Unsigned32 mustnot
+<C> ::= < Diameter Header: 302, REQ > [ X ] * [ AVP ]
+--
+%avp X 9002 Unsigned32 mustnot
+<C> ::= < Diameter Header: 302, REQ > [ X ] * [ AVP ]
+--
+~ AVP X: code 9001 -> 9002; breaks A to B, breaks B to A
+== an AVP that one side alone knows and lists; options listed; status 1
+%avp X 9001 Unsigned32 mustnot
+<C> ::= < Diameter Header: 302, REQ > * [ AVP ]
+--
+%avp X 9001 Unsigned32 mustnot
+%avp Y 9002 Unsigned32 mustnot
+<C> ::= < Diameter Header: 302, REQ > [ Y ] * [ AVP ]
+--
++ AVP Y 9002 Unsigned32 mustnot
++ command C: [ Y ] 0..1; ignored B to A
 "#;

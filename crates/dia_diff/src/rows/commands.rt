@@ -43,4 +43,14 @@ pub(super) const ROWS: &str = r#"== a command that is removed; options listed; s
 <E> ::= < Diameter Header: code, ERR [, PXY] > [ X ]
 --
 ~ command E: P clear -> either; breaks B to A
+== a command of an application of its own lists less; options listed; status 1
+%avp X 9001 Unsigned32 any
+<C> ::= < Diameter Header: 302, REQ > [ X ] * [ AVP ]
+--
+%avp X 9001 Unsigned32 any
+<C> ::= < Diameter Header: 302, REQ > [ X ] * [ AVP ]
+<D> ::= < Diameter Header: 302, REQ, 5 > * [ AVP ]
+--
++ command D < Diameter Header: 302, REQ, 5 >; ignored A to B
++ command D: [ AVP ] 0..*
 "#;

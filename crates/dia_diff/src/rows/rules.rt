@@ -80,4 +80,58 @@ pub(super) const ROWS: &str =
 <C> ::= < Diameter Header: 302, REQ > [ X ]
 --
 - command C: [ AVP ] 0..*
+== a rule that is removed, where the wildcard stays; options listed; status 1
+%avp X 9001 Unsigned32 any
+<C> ::= < Diameter Header: 302, REQ > [ X ] * [ AVP ]
+--
+%avp X 9001 Unsigned32 any
+<C> ::= < Diameter Header: 302, REQ > * [ AVP ]
+--
+- command C: [ X ] 0..1; ignored A to B
+== the same of an AVP that breaks by its flags; options listed; status 1
+%avp X 9001 Unsigned32 must
+<C> ::= < Diameter Header: 302, REQ > [ X ] * [ AVP ]
+--
+%avp X 9001 Unsigned32 mustnot
+<C> ::= < Diameter Header: 302, REQ > * [ AVP ]
+--
+~ AVP X: M must -> mustnot; breaks A to B
+- command C: [ X ] 0..1
+== an AVP that moves into a group; options listed; status 1
+%avp X 9001 Unsigned32 any
+%avp G 9003 Grouped must
+<G> ::= < AVP Header: 9003 > * [ AVP ]
+<C> ::= < Diameter Header: 302, REQ > [ X ] [ G ] * [ AVP ]
+--
+%avp X 9001 Unsigned32 any
+%avp G 9003 Grouped must
+<G> ::= < AVP Header: 9003 > [ X ] * [ AVP ]
+<C> ::= < Diameter Header: 302, REQ > [ G ] * [ AVP ]
+--
++ AVP G: [ X ] 0..1; ignored B to A
+- command C: [ X ] 0..1; ignored A to B
+== a rule of a group that no message has; options listed; status 1
+%avp X 9001 Unsigned32 any
+%avp G 9003 Grouped must
+<G> ::= < AVP Header: 9003 > [ X ] * [ AVP ]
+<C> ::= < Diameter Header: 302, REQ > * [ AVP ]
+--
+%avp X 9001 Unsigned32 any
+%avp G 9003 Grouped must
+<G> ::= < AVP Header: 9003 > * [ AVP ]
+<C> ::= < Diameter Header: 302, REQ > * [ AVP ]
+--
+- AVP G: [ X ] 0..1
+== the same, where a wildcard lets the group in; options known; status 1
+%avp X 9001 Unsigned32 any
+%avp G 9003 Grouped must
+<G> ::= < AVP Header: 9003 > [ X ] * [ AVP ]
+<C> ::= < Diameter Header: 302, REQ > * [ AVP ]
+--
+%avp X 9001 Unsigned32 any
+%avp G 9003 Grouped must
+<G> ::= < AVP Header: 9003 > * [ AVP ]
+<C> ::= < Diameter Header: 302, REQ > * [ AVP ]
+--
+- AVP G: [ X ] 0..1; breaks B to A, ignored A to B
 "#;

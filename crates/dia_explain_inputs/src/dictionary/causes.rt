@@ -17,7 +17,7 @@ pub fn push_cause(note: &mut Note, scene: &Scene<'_>) {
     if let Some(hint) = hint_of_text("dictionary", scene.text) {
         note.put_hint(hint);
     } else if let Some(format) = format_meant(scene) {
-        note.put_all(&["hint: did you mean ", format, "?\n"]);
+        note.put_near(format);
     } else if let Some(name) = unruled(scene) {
         push_unruled(note, scene, name);
     } else if let Some(hint) = hint_at(scene) {

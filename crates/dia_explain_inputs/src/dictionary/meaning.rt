@@ -149,7 +149,7 @@ fn push_meant(note: &mut Note, names: &[&str], fault: &RecordedFault<'_>) -> boo
     }
     match nearest_name(recorded.slot, names) {
         Some(near) => {
-            note.put_all(&["hint: did you mean ", near, "?\n"]);
+            note.put_near(near);
             true
         }
         None => false,

@@ -2,8 +2,8 @@
 
 ghost use Rattle.std.specs.Prelude.{◌≡◌, IfOk, OnOk};
 ghost use Rattle.std.specs.Option.{option_copied};
-ghost use Rattle.dia_follow.specs.Connections.{after_answer, after_request, apps_of, host_in, named};
-ghost use Rattle.dia_follow.specs.Connections.{passed, request_of, requested, session_in, updated, waits_more};
+ghost use Rattle.dia_follow.specs.Connections.{after_answer, after_request, apps_of, host_in, hosted, named};
+ghost use Rattle.dia_follow.specs.Connections.{passed, request_of, requested, session_in, state_in, stated, updated, waits_more};
 ghost use Rattle.dia_follow.specs.Waits.{is_dpr};
 
 use super::Connection;
@@ -19,7 +19,7 @@ use std::alloc::{AllocError, Global};
 
 impl Connection {
     ghost use Rattle.std.specs.Prelude.{◌≡◌, IfOk, OnOk};
-    ghost use Rattle.dia_follow.specs.Connections.{after, findings_of, passed_from, taken};
+    ghost use Rattle.dia_follow.specs.Connections.{after, after_by, findings_of, passed_from, taken};
 
     /// Takes the next message: answers its departures and the notes on it, in the order of `Reason`.
     pub fn step(
@@ -39,6 +39,14 @@ impl Connection {
     /// Takes the next message.
     pub fn advance(&mut self, alloc: Global, from: End, line: &Line<'_>) -> Result<(), AllocError>
         ensures { OnOk result (self.new ≡ after self.old from line.now) }
+    {
+        self.take_seen(alloc, from, line)?;
+        self.last = line.time;
+        Ok(())
+    }
+
+    fn take_seen(&mut self, alloc: Global, from: End, line: &Line<'_>) -> Result<(), AllocError>
+        ensures { OnOk result (self.new ≡ after_by self.old from line.now line.now.seen) }
     {
         match &line.seen {
             Seen::Unread(_) => {
@@ -105,7 +113,7 @@ fn pass(
     } else {
         pass_answer(own, other, number, message)?;
     }
-    learn_host(alloc, own, message)
+    learn_names(alloc, own, message)
 }
 
 fn pass_request(
@@ -260,14 +268,43 @@ fn is_dpr(request: Option<&Request>) -> bool
     }
 }
 
-/// The first Origin-Host of a command between neighbors is the end's.
-fn learn_host(alloc: Global, own: &mut Side, message: &Message<'_>) -> Result<(), AllocError>
+/// What a command between neighbors says of the end that sends it.
+fn learn_names(alloc: Global, own: &mut Side, message: &Message<'_>) -> Result<(), AllocError>
     ensures { OnOk result (own.new ≡ named own.old message.now) }
 {
-    if !message.head.is_base() || own.host.is_some() {
+    if !message.head.is_base() {
         return Ok(());
     }
-    own.host = host_in(alloc, &message.body)?;
+    learn_origin_state(own, &message.body);
+    learn_host(alloc, own, &message.body)
+}
+
+/// The last Origin-State-Id is the end's.
+fn learn_origin_state(own: &mut Side, body: &Body<'_>)
+    ensures { own.new ≡ stated own.old body.now }
+{
+    if let Some(number) = origin_state_in(body) {
+        own.origin_state = Some(number);
+    }
+}
+
+fn origin_state_in(body: &Body<'_>) -> Option<u32>
+    ensures { result ≡ state_in body.now }
+{
+    match body.contents() {
+        Some(contents) => contents.origin_state,
+        None => None,
+    }
+}
+
+/// The first Origin-Host is the end's.
+fn learn_host(alloc: Global, own: &mut Side, body: &Body<'_>) -> Result<(), AllocError>
+    ensures { OnOk result (own.new ≡ hosted own.old body.now) }
+{
+    if own.host.is_some() {
+        return Ok(());
+    }
+    own.host = host_in(alloc, body)?;
     Ok(())
 }
 

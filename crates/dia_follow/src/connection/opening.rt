@@ -18,7 +18,7 @@ impl Connection {
     ghost use Rattle.dia_follow.specs.Messages.{result_of};
     ghost use Rattle.dia_follow.specs.declared.phase.Phase.TheVariants.{Asked as AskedBy, Start};
 
-    /// Messages may be missing. The requests and the hosts stay.
+    /// Messages may be missing. The requests, the hosts and the Origin-State-Ids stay.
     pub(super) fn cut_off(&mut self, alloc: Global)
         ensures { self.new ≡ the_middle self.old }
     {
@@ -27,7 +27,7 @@ impl Connection {
         self.responder.cut_off(alloc);
     }
 
-    /// A message can't be read. The hosts stay.
+    /// A message can't be read. The hosts and the Origin-State-Ids stay.
     pub(super) fn empty(&mut self, alloc: Global)
         ensures { self.new ≡ emptied_all self.old }
     {

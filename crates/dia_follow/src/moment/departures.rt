@@ -1,12 +1,13 @@
 //! The tests of the departures.
 
 ghost use Rattle.std.specs.Prelude.{◌≡◌};
-ghost use Rattle.dia_follow.specs.Departures.{is_wrong_flag};
+ghost use Rattle.dia_follow.specs.Departures.{has_outcome, is_wrong_flag};
 
 use super::Moment;
 use crate::codes::{DEVICE_WATCHDOG, NO_COMMON_APPLICATION};
+use crate::contents::Contents;
 use crate::end::End;
-use crate::message::{Body, Judged, is_success};
+use crate::message::{Body, Head, Judged, is_success};
 use crate::phase::Phase;
 
 impl<'a> Moment<'a> {
@@ -193,6 +194,16 @@ impl<'a> Moment<'a> {
         }
     }
 
+    pub(super) fn no_result(&self) -> bool
+        ensures { result ≡ table.no_result self.now }
+    {
+        let head = self.message.head;
+        match self.contents() {
+            Some(contents) => !head.request && !has_outcome(&head, contents),
+            None => false,
+        }
+    }
+
     fn result(&self) -> Option<u32>
         ensures { result ≡ result_of self.now.message.body }
     {
@@ -273,6 +284,13 @@ impl<'a> Moment<'a> {
             None => false,
         }
     }
+}
+
+/// Whether an answer has a Result-Code, or, beyond the commands between neighbors, an Experimental-Result.
+fn has_outcome(head: &Head, contents: &Contents<'_>) -> bool
+    ensures { result ≡ has_outcome head.now.code contents.now }
+{
+    contents.has_result || (contents.has_experimental && !head.is_base())
 }
 
 /// Whether E is set where it mustn't be, or isn't where it has to be.

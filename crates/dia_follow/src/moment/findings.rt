@@ -62,7 +62,7 @@ impl<'a> Moment<'a> {
         ]
     }
 
-    fn of_answers(&self) -> [Row; 7]
+    fn of_answers(&self) -> [Row; 8]
         ensures { result ≡ table.of_answers self.now }
     {
         [
@@ -73,6 +73,7 @@ impl<'a> Moment<'a> {
             (Reason::Proxiable, self.proxiable()),
             (Reason::SessionId, self.session_id()),
             (Reason::Destination, self.destination()),
+            (Reason::NoResult, self.no_result()),
         ]
     }
 
@@ -99,7 +100,7 @@ impl<'a> Moment<'a> {
         ]
     }
 
-    fn notes_of_state(&self) -> [Row; 5]
+    fn notes_of_state(&self) -> [Row; 7]
         ensures { result ≡ table.notes_of_state self.now }
     {
         [
@@ -107,6 +108,8 @@ impl<'a> Moment<'a> {
             (Reason::Kinds, self.kinds()),
             (Reason::GoesOn, self.goes_on()),
             (Reason::WatchdogEarly, self.watchdog_early()),
+            (Reason::Silence, self.silence()),
+            (Reason::OriginState, self.origin_state_changes()),
             (Reason::Forgotten, self.forgotten()),
         ]
     }

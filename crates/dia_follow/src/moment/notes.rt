@@ -1,10 +1,10 @@
 //! The tests of the notes.
 
 ghost use Rattle.std.specs.Prelude.{◌≡◌};
-ghost use Rattle.dia_follow.specs.Departures.{is_soon};
+ghost use Rattle.dia_follow.specs.Departures.{is_silence, is_soon};
 
 use super::Moment;
-use crate::codes::{DEVICE_WATCHDOG, WATCHDOG_INTERVAL};
+use crate::codes::{DEVICE_WATCHDOG, SILENCE, WATCHDOG_INTERVAL};
 use crate::message::Body;
 
 impl<'a> Moment<'a> {
@@ -88,6 +88,31 @@ impl<'a> Moment<'a> {
         }
     }
 
+    pub(super) fn silence(&self) -> bool
+        ensures { result ≡ table.silence self.now }
+    {
+        let line = self.line;
+        is_silence(self.last, line.time)
+    }
+
+    pub(super) fn origin_state_changes(&self) -> bool
+        ensures { result ≡ table.origin_state self.now }
+    {
+        if !self.message.head.is_base() {
+            return false;
+        }
+        let Some(known) = self.own.origin_state else {
+            return false;
+        };
+        let Some(contents) = self.contents() else {
+            return false;
+        };
+        match contents.origin_state {
+            Some(number) => known != number,
+            None => false,
+        }
+    }
+
     pub(super) fn forgotten(&self) -> bool
         ensures { result ≡ table.forgotten self.now }
     {
@@ -106,4 +131,17 @@ fn is_soon(last: Option<u64>, now: Option<u64>) -> bool
         return false;
     };
     last <= now && now - last < WATCHDOG_INTERVAL
+}
+
+/// Whether more than the time after which a watchdog is sent lies between two times.
+fn is_silence(last: Option<u64>, now: Option<u64>) -> bool
+    ensures { result ≡ is_silence last now }
+{
+    let Some(last) = last else {
+        return false;
+    };
+    let Some(now) = now else {
+        return false;
+    };
+    last <= now && now - last > SILENCE
 }

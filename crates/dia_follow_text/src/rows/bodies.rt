@@ -61,7 +61,7 @@ pub(super) const ROWS: &str = r#"== a DPR refused; options -; status 0
 > 01000014c00001100000000400000002000000
 < 01000020400001100000000400000002000000020000010c4000000c000007d1
 > 01000014c0000110000000090000000300000003
-< 0100001440000110000000090000000300000003
+< 01000020400001100000000900000003000000030000010c4000000c000007d1
 --
 1 > request CER app 0 hop 1 end 1
 2 < answer CEA app 0 hop 1 end 1 code 2001 answers 1 common auth 4
@@ -70,7 +70,7 @@ pub(super) const ROWS: &str = r#"== a DPR refused; options -; status 0
 4 < answer 272 app 4 hop 2 end 2 code 2001
 4 < note answers-before: no request that is known
 5 > request 272 app 9 hop 3 end 3
-6 < answer 272 app 9 hop 3 end 3 answers 5
+6 < answer 272 app 9 hop 3 end 3 code 2001 answers 5
 == version; options -; status 1
 > 0100002080000101000000000000000100000001000001024000000c00000004
 < 0100002c000001010000000000000001000000010000010c4000000c000007d1000001024000000c00000004
@@ -174,7 +174,7 @@ connection: not hexadecimal at line 1
 4 > request 272 app 4 hop 3 end 3
 5 < answer 272 app 4 hop 3 end 3 code 2001 answers 4
 3 > note unanswered: 272
-== a CEA without Result-Code: from the middle; options -; status 0
+== a CEA without Result-Code: from the middle; options -; status 1
 > 0100002080000101000000000000000100000001000001024000000c00000004
 < 0100002000000101000000000000000100000001000001024000000c00000004
 > 01000014c0000110000000090000000200000002
@@ -182,6 +182,7 @@ connection: not hexadecimal at line 1
 --
 1 > request CER app 0 hop 1 end 1
 2 < answer CEA app 0 hop 1 end 1 answers 1
+2 < departure no-result: no Result-Code (RFC 6733 7.1)
 3 > request 272 app 9 hop 2 end 2
 4 < answer 272 app 9 hop 8 end 8 code 2001
 4 < note answers-before: no request that is known

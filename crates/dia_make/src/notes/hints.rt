@@ -20,9 +20,6 @@ pub const RETURNS: &str =
 /// A name or a value with `=` or `:` between them.
 pub const SIGN: &str = "only blanks separate a name and its value: leave out = and :";
 
-/// A code and a vendor with `:` between them.
-pub const COLON: &str = "a / is between the code and the vendor of an AVP, as in 9002/32473";
-
 /// A text that has no closing quote.
 pub const CLOSED: &str = "the closing quote is missing on this line";
 

@@ -2,8 +2,8 @@
 
 use crate::notes::dated::is_dated;
 use crate::notes::hints::{
-    CLOSED, COLON, COMMA, DICTIONARY, DIGITS, ESCAPED, MEMBER, NUMBER, OTHER_QUOTES, PAIRS,
-    RETURNS, SHOWN, SIGN,
+    CLOSED, COMMA, DICTIONARY, DIGITS, ESCAPED, MEMBER, NUMBER, OTHER_QUOTES, PAIRS, RETURNS,
+    SHOWN, SIGN,
 };
 use crate::notes::others::{is_digits_of_message, is_of_dictionary};
 use crate::notes::shown::is_shown;
@@ -37,7 +37,6 @@ pub fn meant_of(wanted: Wanted, word: &[u8], line: &[u8], before: &[u8]) -> Mean
         _ if is_shown(line) => Meant::Hint(SHOWN),
         Wanted::CommandName if is_of_dictionary(line) => Meant::Hint(DICTIONARY),
         Wanted::CommandName if is_digits_of_message(word) => Meant::Hint(DIGITS),
-        Wanted::AvpName if has_colon(word) => Meant::Hint(COLON),
         Wanted::CommandName | Wanted::AvpName | Wanted::Hop | Wanted::End | Wanted::AnyValue
             if has_sign(word) => { Meant::Hint(SIGN) }
         Wanted::CommandName if has_letter(word) => Meant::Command,
@@ -88,18 +87,6 @@ fn meant_text(wanted: Wanted, word: &[u8]) -> Meant {
 /// Whether a word has `=` in it, or ends with `:`.
 fn has_sign(word: &[u8]) -> bool {
     word.contains(&b'=') || word.ends_with(b":")
-}
-
-/// Digits, `:`, and digits.
-fn has_colon(word: &[u8]) -> bool {
-    let Some(last) = word.last() else {
-        return false;
-    };
-    last.is_ascii_digit()
-        && word.contains(&b':')
-        && word
-            .iter()
-            .all(|byte| byte.is_ascii_digit() || *byte == b':')
 }
 
 /// `x` and hexadecimal digits, of which one has no second.

@@ -1,7 +1,7 @@
 //! The names of a dictionary, of which one may be meant by a word.
 
-use dia_dict::{Book, IndexedBook};
-use dia_explain_places::{Note, nearest_command, nearest_name};
+use dia_dict::IndexedBook;
+use dia_explain_places::{Note, avp_names, command_names, nearest_command, nearest_name};
 use std::alloc::{AllocError, Global};
 
 /// What to do about a name that the base dictionary doesn't have.
@@ -58,31 +58,15 @@ impl<'a> NamesOf<'a> {
     /// Adds the nearest name, if there is one.
     fn push_near(&self, note: &mut Note, near: Option<&str>) {
         match near {
-            Some(near) => note.put_all(&["hint: did you mean ", near, "?\n"]),
+            Some(near) => note.put_near(near),
             None => note.put(if self.is_base { OTHER } else { "" }),
         }
     }
 
     fn names(&self, alloc: Global) -> Result<Names<'a>, AllocError> {
         Ok(Names {
-            commands: self.commands(alloc)?,
-            avps: self.avps(alloc)?,
+            commands: command_names(alloc, self.book)?,
+            avps: avp_names(alloc, self.book)?,
         })
-    }
-
-    fn avps(&self, alloc: Global) -> Result<Vec<&'a str>, AllocError> {
-        let mut names = Vec::new(alloc);
-        for index in 0..self.book.entries() {
-            names.push(self.book.entry_name(self.book.entry_at(index)))?;
-        }
-        Ok(names)
-    }
-
-    fn commands(&self, alloc: Global) -> Result<Vec<&'a str>, AllocError> {
-        let mut names = Vec::new(alloc);
-        for index in 0..self.book.commands() {
-            names.push(self.book.def(self.book.command_at(index)).name.as_str())?;
-        }
-        Ok(names)
     }
 }

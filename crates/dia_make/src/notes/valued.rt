@@ -106,7 +106,7 @@ fn push_known(note: &mut Note, tables: &Tables<'_>, name: &[u8], word: &[u8]) {
     let spelt = str::from_utf8(word).unwrap_or("");
     match tables.words_of(note.allocator(), name) {
         Ok(words) => match nearest_name(spelt, &words) {
-            Some(near) => note.put_all(&["hint: did you mean ", near, "?\n"]),
+            Some(near) => note.put_near(near),
             None => push_words(note, name, &words),
         },
         Err(error) => note.keep(Err(error)),

@@ -82,6 +82,20 @@ Gx-CCR: Lonely by [ AVP ]
 --
 Gx-CCR/Charging-Rule-Install/Charging-Rule-Definition: Precedence 0..1
 Gx-CCR: Precedence by [ AVP ]
+== a code and a vendor after a slash; avps 1010/10415; status 0
+%avp Session-Id 263 UTF8String must
+%avp Precedence 1010 vendor 10415 Unsigned32 must
+%avp Charging-Rule-Name 1005 vendor 10415 OctetString must
+%avp Charging-Rule-Definition 1003 vendor 10415 Grouped must
+%avp Charging-Rule-Install 1001 vendor 10415 Grouped must
+%avp Lonely 9001 Unsigned32 any
+<Charging-Rule-Definition> ::= < AVP Header: 1003 10415 > { Charging-Rule-Name } [ Precedence ]
+<Charging-Rule-Install> ::= < AVP Header: 1001 10415 > * [ Charging-Rule-Definition ]
+<Gx-CCR> ::= < Diameter Header: 272, REQ, PXY, 16777238 > < Session-Id > * [ Charging-Rule-Install ] * [ AVP ]
+<Gx-CCA> ::= < Diameter Header: 272, PXY, 16777238 > < Session-Id > [ Charging-Rule-Install ]
+--
+Gx-CCR/Charging-Rule-Install/Charging-Rule-Definition: Precedence 0..1
+Gx-CCR: Precedence by [ AVP ]
 == the code of another vendor's AVP; avps 1010; status 0
 %avp Session-Id 263 UTF8String must
 %avp Precedence 1010 vendor 10415 Unsigned32 must
@@ -162,6 +176,32 @@ uses: no AVP 4294967296
 <Gx-CCA> ::= < Diameter Header: 272, PXY, 16777238 > < Session-Id > [ Charging-Rule-Install ]
 --
 uses: no AVP 1:2:3
+== two signs; avps 1:2/3; status 2
+%avp Session-Id 263 UTF8String must
+%avp Precedence 1010 vendor 10415 Unsigned32 must
+%avp Charging-Rule-Name 1005 vendor 10415 OctetString must
+%avp Charging-Rule-Definition 1003 vendor 10415 Grouped must
+%avp Charging-Rule-Install 1001 vendor 10415 Grouped must
+%avp Lonely 9001 Unsigned32 any
+<Charging-Rule-Definition> ::= < AVP Header: 1003 10415 > { Charging-Rule-Name } [ Precedence ]
+<Charging-Rule-Install> ::= < AVP Header: 1001 10415 > * [ Charging-Rule-Definition ]
+<Gx-CCR> ::= < Diameter Header: 272, REQ, PXY, 16777238 > < Session-Id > * [ Charging-Rule-Install ] * [ AVP ]
+<Gx-CCA> ::= < Diameter Header: 272, PXY, 16777238 > < Session-Id > [ Charging-Rule-Install ]
+--
+uses: no AVP 1:2/3
+== a vendor without a code; avps /10415; status 2
+%avp Session-Id 263 UTF8String must
+%avp Precedence 1010 vendor 10415 Unsigned32 must
+%avp Charging-Rule-Name 1005 vendor 10415 OctetString must
+%avp Charging-Rule-Definition 1003 vendor 10415 Grouped must
+%avp Charging-Rule-Install 1001 vendor 10415 Grouped must
+%avp Lonely 9001 Unsigned32 any
+<Charging-Rule-Definition> ::= < AVP Header: 1003 10415 > { Charging-Rule-Name } [ Precedence ]
+<Charging-Rule-Install> ::= < AVP Header: 1001 10415 > * [ Charging-Rule-Definition ]
+<Gx-CCR> ::= < Diameter Header: 272, REQ, PXY, 16777238 > < Session-Id > * [ Charging-Rule-Install ] * [ AVP ]
+<Gx-CCA> ::= < Diameter Header: 272, PXY, 16777238 > < Session-Id > [ Charging-Rule-Install ]
+--
+uses: no AVP /10415
 == a sign; avps +5; status 2
 %avp Session-Id 263 UTF8String must
 %avp Precedence 1010 vendor 10415 Unsigned32 must

@@ -3,7 +3,7 @@ use Rattle.std.proofs.lemmas.Result.{IfOk-weaker}
 use Rattle.dia_breaking.specs.Sides.{sides}
 use Rattle.dia_differences.specs.Partners.{Matches}
 use Rattle.dia_differences.specs.declared.sides.Side.TheVariants.{Second}
-use Rattle.dia_diff.specs.Marked.{is_marked}
+use Rattle.dia_diff.specs.Marked.{effects_by}
 use Rattle.dia_diff.specs.Marks.{whats}
 use Rattle.dia_diff.specs.Origins.{Route}
 use Rattle.dia_diff.specs.Unbroken.{AreSoundMarks}
@@ -17,5 +17,5 @@ returns g c =
       commands = commands;
     } in
     IfOk-weaker c.marks_of.result _ _ (λ marks sound.
-    subst (λ (commands : List (Option ℕ)). AreSoundMarks (route commands) (whats c.args.lines.now) (is_marked marks)) (c.deref.ensures.value ∙ ap (λ (m : Matches). m.commands_back) c.requires) sound)
+    subst (λ (commands : List (Option ℕ)). AreSoundMarks (route commands) (whats c.args.lines.now) (effects_by marks)) (c.deref.ensures.value ∙ ap (λ (m : Matches). m.commands_back) c.requires) sound)
     c.marks_of.ensures

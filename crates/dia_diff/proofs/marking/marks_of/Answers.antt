@@ -2,7 +2,7 @@ use Rattle.std.specs.HashSet.{contains}
 use Rattle.std.proofs.Math.Path.{fun_ext}
 use Rattle.std.proofs.lemmas.Result.{IfOk-weaker}
 use Rattle.dia_breaking.specs.Sides.{sides}
-use Rattle.dia_diff.specs.Marked.{is_marked}
+use Rattle.dia_diff.specs.Marked.{effects_by}
 use Rattle.dia_diff.specs.Marks.{whats}
 use Rattle.dia_diff.specs.Routes.{route_of}
 use Rattle.dia_diff.specs.Subjects.{same_subject}
@@ -16,5 +16,5 @@ marks_by-requires g c =
 
 pub returns : goal.returns
 returns g c =
-    IfOk-weaker c.marks_by.result _ _ (λ marks found. sound_marks (route_of g.A.Book.meaning g.B.Book.meaning c.args.traffic.now) (whats c.args.lines.now) (contains same_subject c.in_ok-present.present) (is_marked marks)
+    IfOk-weaker c.marks_by.result _ _ (λ marks found. sound_marks (route_of g.A.Book.meaning g.B.Book.meaning c.args.traffic.now) (whats c.args.lines.now) (contains same_subject c.in_ok-present.present) (effects_by marks)
     (fun_ext c.in_ok-present.ensures) found) c.marks_by.ensures

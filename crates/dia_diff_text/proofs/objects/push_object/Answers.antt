@@ -1,7 +1,7 @@
 use Rattle.std.proofs.Common.{◌++◌}
 use Rattle.std.specs.Prelude.{codes, string_bytes}
 use Rattle.std.proofs.lemmas.Result.{on_ok_weaker}
-use Rattle.dia_diff_text.specs.Lines.{json_breaks, json_start, member_words}
+use Rattle.dia_diff_text.specs.Lines.{json_effects, json_start, member_words}
 use Rattle.dia_diff_text.specs.Plain.{plain_parts}
 use Rattle.dia_diff_text.proofs.AddedTexts.{then_text}
 use Rattle.dia_diff_text.proofs.objects.push_object.Goals as goal
@@ -18,8 +18,8 @@ returns c =
     let b1 = string_bytes c.push_field.new.out in
     let b2 = string_bytes c.push_words.new.out in
     let b3 = string_bytes c.push_words-2.new.out in
-    on_ok_weaker c.push_breaks.result
-    (then_text old b3 (string_bytes c.push_breaks.new.out) (start ++ field ++ first ++ second) (json_breaks p.there p.back)
+    on_ok_weaker c.push_effects.result
+    (then_text old b3 (string_bytes c.push_effects.new.out) (start ++ field ++ first ++ second) (json_effects p.there p.back)
     (then_text old b2 b3 (start ++ field ++ first) second
     (then_text old b1 b2 (start ++ field) first (then_text old b0 b1 start field c.in_ok-push_start.ensures c.in_ok-push_field.ensures) c.in_ok-push_words.ensures) c.in_ok-push_words-2.ensures))
-    c.push_breaks.ensures
+    c.push_effects.ensures

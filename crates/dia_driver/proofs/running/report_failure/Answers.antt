@@ -9,8 +9,8 @@ returns-then-is_unread g c = record {
   recorded = λ other. absurd (other (by_true c.is_unread.result _ c.is_unread.ensures c.if-is_unread.true));
 }
 
-pub returns-then-means_base : goal.returns-then-means_base
-returns-then-means_base g c = record {
+pub returns-then-not-quiet : goal.returns-then-not-quiet
+returns-then-not-quiet g c = record {
   is_3 = failed_with_3 c.args.ending.now _ c.report_error-status.result c.requires.failed c.report_error-status.ensures;
   quiet = λ is. absurd (by_false c.is_unread.result _ c.is_unread.ensures c.if-is_unread.false is);
   recorded = λ _. c.report_error-status.ensures;
